@@ -1,0 +1,165 @@
+-- Inputs that separate likely misreadings of operand shapes, rows and counted lengths, by computation. Expected values: document 01,
+-- READINGS 1 to 5 and 11, and the patterns of assembler/src/operands.rs and assembler/src/asm.rs.
+use Prim.Native.Nat.{ℕ}
+use mathlib.Core.Path.{_≡_, refl}
+use mathlib.Core.List.{List, [], _∷_, map}
+use mathlib.Core.Option.{Option, none, some}
+use Rattle.text.specs.Bytes.{bytes, isSpace, isDigit, isLetter, isWord, same}
+use Rattle.text.specs.Scan.{scan, all, parts}
+use Rattle.text_read.specs.Numerals.{digitValue, valueFrom, numeral}
+use Rattle.vm_opcodes.specs.Operations.{operations, firstOperation}
+use Rattle.vm_opcodes.specs.declared.OlaOpcode.the-variants.{ADD, MOV, CJMP, RET, MLOAD, MSTORE, NOT, JMP, SIGCHECK, EVENT}
+use Rattle.vm_hardware.specs.Registers.{registers, registerOf, specialOf}
+use Rattle.vm_hardware.specs.declared.OlaRegister.the-variants.{R0, R1, R2, R3, R9}
+use Rattle.vm_hardware.specs.declared.OlaSpecialRegister.the-variants.{PC, PSP}
+use Rattle.vm_operands.specs.Numbers.{immediate, signed, numberOf}
+use Rattle.asm.specs.Parts.{Part, placed, filledParts, linePieces, rowPieces, sourcePieces}
+use Rattle.asm.specs.Operands.{shapes, firstMatch, operandOf}
+use Rattle.asm.specs.Rows.{arranged, operandsOf, arrangedIf, isCallRow, isPairRow, labelRow, rowOf, instruction, countedLength}
+use Rattle.asm.specs.declared.OlaAsmOperand.{OlaAsmOperand}
+use Rattle.asm.specs.declared.OlaAsmOperand.the-variants.{Empty, ImmediateOperand, RegisterOperand, RegisterWithOffset, RegisterWithFactoredRegOffset, SpecialReg, Label, Identifier}
+use Rattle.asm.specs.declared.OperandRead.{OperandRead}
+use Rattle.asm.specs.declared.OperandRead.the-variants.{Is, Unreadable}
+use Rattle.asm.specs.declared.AsmRow.{AsmRow}
+use Rattle.asm.specs.declared.AsmRow.the-variants.{Instruction, LabelCall, LabelJmp, LabelProphet}
+use Rattle.asm.specs.declared.RowRead.{RowRead}
+use Rattle.asm.specs.declared.RowRead.the-variants.{Is as IsRow, Unreadable as NoRow}
+
+-- a piece that starts at byte 7
+abbrev piece : List ℕ → OperandRead
+piece x = operandOf (record { start = 7; text = x })
+
+abbrev operandCases : List (List ℕ × OperandRead)
+operandCases =
+    (bytes "+5", Is (ImmediateOperand (immediate 5)))
+    ∷ (bytes "-0", Is (ImmediateOperand (immediate 0)))
+    ∷ (bytes "-1", Is (ImmediateOperand (immediate 18446744069414584320)))
+    ∷ (bytes "007", Is (ImmediateOperand (immediate 7)))
+    ∷ (bytes "18446744069414584321", Unreadable)
+    ∷ (bytes "-18446744069414584321", Unreadable)
+    ∷ (bytes "0x5", Unreadable)
+    ∷ (bytes "1a", Unreadable)
+    ∷ (bytes "+", Unreadable)
+    ∷ (bytes "r9", Is (RegisterOperand R9))
+    ∷ (bytes "r10", Is (Identifier 7 3))
+    ∷ (bytes "r", Is (Identifier 7 1))
+    ∷ (bytes "[r2,r3,-1]", Is (RegisterWithFactoredRegOffset R2 R3 (immediate 18446744069414584320)))
+    ∷ (bytes "[r2,r3,18446744069414584321]", Unreadable)
+    ∷ (bytes "[r2,r3]", Is (RegisterWithFactoredRegOffset R2 R3 (immediate 1)))
+    ∷ (bytes "[r2,r3,]", Unreadable)
+    ∷ (bytes "[r2,r3,4", Unreadable)
+    ∷ (bytes "[r2,r3,4]]", Unreadable)
+    ∷ (bytes "[r2]", Is (RegisterWithOffset R2 (immediate 0)))
+    ∷ (bytes "[r2,+7]", Is (RegisterWithOffset R2 (immediate 7)))
+    ∷ (bytes "[r2,18446744069414584321]", Unreadable)
+    ∷ (bytes "[r2,]", Unreadable)
+    ∷ (bytes "[r2,f]", Unreadable)
+    ∷ (bytes "[r10]", Unreadable)
+    ∷ (bytes "[2]", Unreadable)
+    ∷ (bytes "r2]", Unreadable)
+    ∷ (bytes "[]", Unreadable)
+    ∷ (bytes ".LBL1_2", Is (Label 7 7))
+    ∷ (bytes "xLBL0_12", Is (Label 7 8))
+    ∷ ((1 ∷ 76 ∷ 66 ∷ 76 ∷ 49 ∷ 95 ∷ 50 ∷ []), Is (Label 7 7))
+    ∷ (bytes "LBL1_2", Is (Identifier 7 6))
+    ∷ (bytes "xxLBL1_2", Is (Identifier 7 8))
+    ∷ (bytes ".LBL1_", Unreadable)
+    ∷ (bytes ".LBL_1", Unreadable)
+    ∷ (bytes ".LBL1_2_3", Unreadable)
+    ∷ (bytes "pc", Is (SpecialReg PC))
+    ∷ (bytes "psp", Is (SpecialReg PSP))
+    ∷ (bytes "pcx", Is (Identifier 7 3))
+    ∷ (bytes "__f_1", Is (Identifier 7 5))
+    ∷ (bytes "_1", Unreadable)
+    ∷ (bytes "__", Unreadable)
+    ∷ (bytes "f.1", Unreadable)
+    ∷ (bytes "a-b", Unreadable)
+    ∷ (bytes "main:", Unreadable)
+    ∷ []
+
+-- the rows of a source
+abbrev rowsOf : List ℕ → List RowRead
+rowsOf s = map rowOf (sourcePieces s)
+
+abbrev rowCases : List (List ℕ × List RowRead)
+rowCases =
+    (bytes "mload r1 [r2]", instruction MLOAD Empty (RegisterWithOffset R2 (immediate 0)) (RegisterOperand R1) ∷ [])
+    ∷ (bytes "mstore [r1,2] r3", instruction MSTORE (RegisterWithOffset R1 (immediate 2)) (RegisterOperand R3) Empty ∷ [])
+    ∷ (bytes "add r1 r2 5", instruction ADD (RegisterOperand R2) (ImmediateOperand (immediate 5)) (RegisterOperand R1) ∷ [])
+    ∷ (bytes "mov r1 r2", instruction MOV Empty (RegisterOperand R2) (RegisterOperand R1) ∷ [])
+    ∷ (bytes "cjmp r1 5", instruction CJMP (RegisterOperand R1) (ImmediateOperand (immediate 5)) Empty ∷ [])
+    ∷ (bytes "sigcheck r1 r2", instruction SIGCHECK Empty (RegisterOperand R2) (RegisterOperand R1) ∷ [])
+    ∷ (bytes "log r1 r2", instruction EVENT (RegisterOperand R1) (RegisterOperand R2) Empty ∷ [])
+    ∷ (bytes "jmp f", instruction JMP Empty (Identifier 4 1) Empty ∷ [])
+    ∷ (bytes "  jmp\tf\r\n", instruction JMP Empty (Identifier 6 1) Empty ∷ [])
+    ∷ (bytes "ret ; jmp f", instruction RET Empty Empty Empty ∷ [])
+    ∷ (bytes "; ret\n\n \t", [])
+    ∷ (bytes "add r1 r2", NoRow ∷ [])
+    ∷ (bytes "add r1 r2 r3 r1", NoRow ∷ [])
+    ∷ (bytes "mov r1", NoRow ∷ [])
+    ∷ (bytes "mov r1 r2 r3", NoRow ∷ [])
+    ∷ (bytes "jmp", NoRow ∷ [])
+    ∷ (bytes "ret r1", NoRow ∷ [])
+    ∷ (bytes "MOV r1 r2", NoRow ∷ [])
+    ∷ (bytes "event r1 r2", NoRow ∷ [])
+    ∷ (bytes "mov r1, r2", NoRow ∷ [])
+    ∷ (bytes "mload r1 [r2, 5]", NoRow ∷ [])
+    ∷ (bytes "call f.1", NoRow ∷ [])
+    ∷ (bytes "f:", IsRow (LabelCall 0 1) ∷ [])
+    ∷ (bytes "\n main: ; x", IsRow (LabelCall 2 4) ∷ [])
+    ∷ (bytes "f.1:", IsRow (LabelCall 0 3) ∷ [])
+    ∷ (bytes "_1:", IsRow (LabelCall 0 2) ∷ [])
+    ∷ (bytes "12:", IsRow (LabelCall 0 2) ∷ [])
+    ∷ (bytes "r1:", IsRow (LabelCall 0 2) ∷ [])
+    ∷ (bytes "pc:", IsRow (LabelCall 0 2) ∷ [])
+    ∷ (bytes "ret:", IsRow (LabelCall 0 3) ∷ [])
+    ∷ (bytes "xLBL1_1:", IsRow (LabelCall 0 7) ∷ [])
+    ∷ (bytes ".LBL1_2:", IsRow (LabelJmp 0 7) ∷ [])
+    ∷ (bytes ".PROPHET1_2:", IsRow (LabelProphet 0 11) ∷ [])
+    ∷ (bytes ".LBL1_2", NoRow ∷ [])
+    ∷ (bytes ".LBL1_2 :", NoRow ∷ [])
+    ∷ (bytes ".LBL1:", NoRow ∷ [])
+    ∷ (bytes ".PROPHET1_:", NoRow ∷ [])
+    ∷ (bytes ":", NoRow ∷ [])
+    ∷ (bytes "f.:", NoRow ∷ [])
+    ∷ (bytes "f.1.2:", NoRow ∷ [])
+    ∷ (bytes "f::", NoRow ∷ [])
+    ∷ (bytes "main:\rend", NoRow ∷ [])
+    ∷ ((114 ∷ 101 ∷ 116 ∷ 28 ∷ []), NoRow ∷ [])
+    ∷ []
+
+-- the counted length of the first row, where it is an instruction
+abbrev lengthOf : List RowRead → Option ℕ
+lengthOf [] = none
+lengthOf (NoRow ∷ rs) = none
+lengthOf (IsRow (Instruction i) ∷ rs) = some (countedLength i)
+lengthOf (IsRow (LabelCall a n) ∷ rs) = none
+lengthOf (IsRow (LabelJmp a n) ∷ rs) = none
+lengthOf (IsRow (LabelProphet a n) ∷ rs) = none
+
+abbrev lengthCases : List (List ℕ × Option ℕ)
+lengthCases =
+    (bytes "mstore 5 6", some 3)
+    ∷ (bytes "cjmp f 6", some 3)
+    ∷ (bytes "mov 5 r1", some 1)
+    ∷ (bytes "mov r1 5", some 2)
+    ∷ (bytes "mov r1 [r2]", some 2)
+    ∷ (bytes "mov r1 pc", some 1)
+    ∷ (bytes "mload r1 [r2]", some 2)
+    ∷ (bytes "mstore [r2,r3] r1", some 2)
+    ∷ (bytes "add r1 r2 r3", some 1)
+    ∷ (bytes "jmp .LBL1_1", some 2)
+    ∷ (bytes "end", some 1)
+    ∷ []
+
+operands-right : map (λ c. piece (c .0)) operandCases ≡ map (λ c. c .1) operandCases
+unfolding isDigit isLetter isWord same scan all digitValue valueFrom numeral registers registerOf specialOf signed numberOf shapes firstMatch
+operands-right = refl
+
+rows-right : map (λ c. rowsOf (c .0)) rowCases ≡ map (λ c. c .1) rowCases
+unfolding isSpace isDigit isLetter isWord same scan all parts digitValue valueFrom numeral operations firstOperation registers registerOf specialOf signed numberOf placed filledParts linePieces rowPieces shapes firstMatch arranged operandsOf arrangedIf isCallRow isPairRow labelRow rowOf
+rows-right = refl
+
+lengths-right : map (λ c. lengthOf (rowsOf (c .0))) lengthCases ≡ map (λ c. c .1) lengthCases
+unfolding isSpace isDigit isLetter isWord same scan all parts digitValue valueFrom numeral operations firstOperation registers registerOf specialOf signed numberOf placed filledParts linePieces rowPieces shapes firstMatch arranged operandsOf arrangedIf isCallRow isPairRow labelRow rowOf
+lengths-right = refl

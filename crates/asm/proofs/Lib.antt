@@ -1,0 +1,4 @@
+pub mod LengthLaws
+pub mod ShapeLaws
+pub mod NumberLaws
+pub mod Cases

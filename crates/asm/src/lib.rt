@@ -1,0 +1,94 @@
+// Operands and rows of a source: assembler/src/operands.rs and assembler/src/asm.rs.
+use vm_hardware::OlaRegister;
+use vm_hardware::OlaSpecialRegister;
+use vm_opcodes::OlaOpcode;
+use vm_operands::ImmediateValue;
+ghost use mathlib.Core.Path.{_≡_};
+
+// A count of rows, the source's line_num: the detail of refusals 3, 10, 11 and 12. It is never added to a word address.
+pub struct RowCount(pub usize);
+
+// What a place of a source row holds. A label or a name is the part of the source that it stands in.
+pub enum OlaAsmOperand {
+    Empty,
+    ImmediateOperand {
+        value: ImmediateValue,
+    },
+    RegisterOperand {
+        register: OlaRegister,
+    },
+    RegisterWithOffset {
+        register: OlaRegister,
+        offset: ImmediateValue,
+    },
+    RegisterWithFactoredRegOffset {
+        register: OlaRegister,
+        offset_register: OlaRegister,
+        factor: ImmediateValue,
+    },
+    SpecialReg {
+        special_reg: OlaSpecialRegister,
+    },
+    Label {
+        start: usize,
+        length: usize,
+    },
+    Identifier {
+        start: usize,
+        length: usize,
+    },
+}
+
+// What reading a piece as an operand finds.
+pub enum OperandRead {
+    Is(OlaAsmOperand),
+    Unreadable,
+}
+
+// An instruction row: its operation and its operands by place.
+pub struct OlaAsmInstruction {
+    pub opcode: OlaOpcode,
+    pub op0: OlaAsmOperand,
+    pub op1: OlaAsmOperand,
+    pub dst: OlaAsmOperand,
+}
+
+// A row. A label row is the part of the source that its name stands in, without the colon.
+pub enum AsmRow {
+    Instruction(OlaAsmInstruction),
+    LabelCall { start: usize, length: usize },
+    LabelJmp { start: usize, length: usize },
+    LabelProphet { start: usize, length: usize },
+}
+
+// What reading a line finds.
+pub enum RowRead {
+    Is(AsmRow),
+    Unreadable,
+}
+
+impl RowCount {
+    pub fn new(rows: usize) -> Self
+        ensures { λ r. ⌜ r ≡ record { 0 = rows } ⌝ }
+    {
+        Self(rows)
+    }
+}
+
+impl OlaAsmInstruction {
+    pub fn new(
+        opcode: OlaOpcode,
+        op0: OlaAsmOperand,
+        op1: OlaAsmOperand,
+        dst: OlaAsmOperand,
+    ) -> Self
+        ensures { λ r. ⌜ r ≡ record { opcode = opcode; op0 = op0; op1 = op1; dst = dst } ⌝ }
+    {
+        Self {
+            opcode,
+            op0,
+            op1,
+            dst,
+        }
+    }
+}

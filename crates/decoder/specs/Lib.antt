@@ -1,0 +1,4 @@
+pub mod Lines
+pub mod Decode
+pub mod AsRead
+pub mod Open

@@ -1,0 +1,24 @@
+// Bytecode read back into instructions: core/src/program/decoder.rs.
+
+// Why a bytecode is not opened.
+pub enum OpenRefusal {
+    // 14: above 524,288 bytes.
+    TextTooLong,
+    // 15: a first word that is no 64-bit hexadecimal number, with the line's index.
+    FirstWordUnreadable(usize),
+    // 16: no operation bit, with the instruction's index, as in the cases below.
+    NoOperation(usize),
+    // 17: two lines where one is due.
+    LineTooMany(usize),
+    // 18: a second line that is no number below p in size.
+    SecondLineUnreadable(usize),
+    // 19: mload or mstore lacking dst, op0 or, without bit 62, op1.
+    RegisterMissing(usize),
+}
+
+// Why the next instruction is not read: the refusals of opening, for the lines read only and with index 0, and one more.
+pub enum NextRefusal {
+    Open(OpenRefusal),
+    // 20: none complete left.
+    NoneLeft,
+}

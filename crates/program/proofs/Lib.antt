@@ -1,0 +1,4 @@
+pub mod CanonicalForm
+pub mod WordLaws
+pub mod FormLaws
+pub mod Cases

@@ -1,0 +1,11 @@
+pub mod Terms
+pub mod Starred
+pub mod InjectiveLaws
+pub mod ReadingLaws
+pub mod NameLaws
+pub mod LengthLaws
+pub mod AcceptedLaws
+pub mod SameLaws
+pub mod NamePromise
+pub mod Promises
+pub mod Applied

@@ -1,0 +1,38 @@
+-- The third promise, from the laws of names and what holds of every accepted source.
+use Prim.Native.Nat.{ℕ}
+use mathlib.Core.Path.{_≡_, refl, sym, ap, subst, _∙_}
+use mathlib.Core.List.{List}
+use mathlib.Core.Bool.{true}
+use mathlib.Core.Option.{some}
+use lib.ListN.{getElem?}
+use Rattle.text.specs.Answer.{ok}
+use Rattle.text.proofs.AnswerLaws.{ok-same}
+use Rattle.vm_hardware.specs.declared.Place.{Place}
+use Rattle.asm.specs.declared.OlaAsmOperand.the-variants.{Label, Identifier}
+use Rattle.asm.specs.declared.OlaAsmInstruction.{OlaAsmInstruction}
+use Rattle.asm.specs.declared.AsmRow.{AsmRow}
+use Rattle.relocate.specs.Labels.{callKind, jmpKind, instructions}
+use Rattle.relocate.specs.Relocate.{sortedOf}
+use Rattle.program.specs.declared.BinaryInstruction.{BinaryInstruction}
+use Rattle.encoder.specs.Canonical.{namesOf, canonicalProgram}
+use Rattle.encoder.specs.Assemble.{Room, Accepted, assembled}
+use Rattle.encoder.proofs.AcceptedLaws.{accepted-rows}
+use Rattle.promises.specs.Terms.{allClean, operandAt, contentAt}
+use Rattle.promises.specs.NameLaws.{HoldsCount, names-are-word-counts}
+use Rattle.promises.specs.AcceptedLaws.{accepted-shaped}
+
+module _ (s prophets : List ℕ) (room : Room) (a : Accepted) (h : assembled s prophets room ≡ ok a) where
+  -- the program is the canonical program of the sorted rows
+  of-rows : (rows : List AsmRow) → sortedOf s ≡ ok rows → canonicalProgram s rows ≡ ok (a .program)
+  of-rows rows e =
+      let r = accepted-rows s prophets room a h in
+      subst (λ (x : List AsmRow). canonicalProgram s x ≡ ok (a .program)) (ok-same (sym (r .sorted) ∙ e)) (r .canonical)
+
+  pub names-counted : (rows : List AsmRow) → sortedOf s ≡ ok rows → allClean (instructions rows) ≡ true
+      → (k : ℕ) (i : OlaAsmInstruction) (b : BinaryInstruction) → getElem? (instructions rows) k ≡ some i → getElem? (a .program) k ≡ some b
+      → (place : Place) (start n : ℕ)
+      → (operandAt place i ≡ Identifier start n → HoldsCount (namesOf s rows) (a .program) callKind start n (contentAt place b))
+      × (operandAt place i ≡ Label start n → HoldsCount (namesOf s rows) (a .program) jmpKind start n (contentAt place b))
+  names-counted rows e clean =
+      names-are-word-counts s rows (a .program) (of-rows rows e) (accepted-rows s prophets room a h .placed) clean
+      (accepted-shaped s prophets room a h rows e)

@@ -1,0 +1,67 @@
+-- The words of demand 3: the same program, and where names stand.
+use Prim.Native.Nat.{ℕ, _%_}
+use mathlib.Core.Path.{_≡_}
+use mathlib.Core.List.{List, [], _∷_, map}
+use mathlib.Core.Bool.{Bool, true, false, not, _&&_, _||_}
+use Rattle.vm_hardware.specs.declared.Place.{Place}
+use Rattle.vm_hardware.specs.declared.Place.the-variants.{Op0, Op1, Dst}
+use Rattle.vm_operands.specs.Numbers.{order, immediate}
+use Rattle.vm_operands.specs.declared.ImmediateValue.{ImmediateValue}
+use Rattle.vm_operands.specs.declared.OlaOperand.{OlaOperand}
+use Rattle.vm_operands.specs.declared.OlaOperand.the-variants.{Empty, ImmediateOperand, RegisterOperand, RegisterWithOffset, RegisterWithFactor, SpecialReg}
+use Rattle.asm.specs.declared.OlaAsmOperand.{OlaAsmOperand}
+use Rattle.asm.specs.declared.OlaAsmOperand.the-variants.{Empty as NoOperand, ImmediateOperand as ANumber, RegisterOperand as ARegister, RegisterWithOffset as AnOffset, RegisterWithFactoredRegOffset as AFactor, SpecialReg as ASpecial, Label, Identifier}
+use Rattle.asm.specs.declared.OlaAsmInstruction.{OlaAsmInstruction}
+use Rattle.program.specs.Instructions.{made, isMemory}
+use Rattle.program.specs.declared.BinaryInstruction.{BinaryInstruction}
+
+-- ---- the same program: "one by one the same operation, the same contents or emptiness of each place, and numbers equal modulo p"
+
+abbrev pub residue : ImmediateValue → ImmediateValue
+residue v = immediate (v .number % order)
+
+abbrev pub contentResidue : OlaOperand → OlaOperand
+contentResidue Empty = Empty
+contentResidue (ImmediateOperand v) = ImmediateOperand (residue v)
+contentResidue (RegisterOperand r) = RegisterOperand r
+contentResidue (RegisterWithOffset r v) = RegisterWithOffset r (residue v)
+contentResidue (RegisterWithFactor r v) = RegisterWithFactor r (residue v)
+contentResidue (SpecialReg s) = SpecialReg s
+
+-- an instruction with its numbers taken modulo p
+abbrev pub instructionResidue : BinaryInstruction → BinaryInstruction
+instructionResidue i = made (i .opcode) (contentResidue (i .op0)) (contentResidue (i .op1)) (contentResidue (i .dst))
+
+abbrev pub SameProgram : List BinaryInstruction → List BinaryInstruction → Type 0
+SameProgram is js = map instructionResidue is ≡ map instructionResidue js
+
+-- ---- names in operands
+
+abbrev pub isBracketed : OlaAsmOperand → Bool
+isBracketed NoOperand = false
+isBracketed (ANumber v) = false
+isBracketed (ARegister r) = false
+isBracketed (AnOffset r v) = true
+isBracketed (AFactor r t v) = true
+isBracketed (ASpecial t) = false
+isBracketed (Label start n) = false
+isBracketed (Identifier start n) = false
+
+-- "no bracketed operand stands outside mload and mstore"
+abbrev pub isClean : OlaAsmInstruction → Bool
+isClean i = isMemory (i .opcode) || not (isBracketed (i .op0) || isBracketed (i .op1) || isBracketed (i .dst))
+
+unfoldable pub allClean : List OlaAsmInstruction → Bool
+allClean [] = true
+allClean (i ∷ is) = isClean i && allClean is
+
+-- what stands in a place of a row, and of an instruction
+abbrev pub operandAt : Place → OlaAsmInstruction → OlaAsmOperand
+operandAt Op0 i = i .op0
+operandAt Op1 i = i .op1
+operandAt Dst i = i .dst
+
+abbrev pub contentAt : Place → BinaryInstruction → OlaOperand
+contentAt Op0 i = i .op0
+contentAt Op1 i = i .op1
+contentAt Dst i = i .dst

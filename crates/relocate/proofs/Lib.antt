@@ -1,0 +1,3 @@
+pub mod SortLaws
+pub mod LengthLaws
+pub mod Cases

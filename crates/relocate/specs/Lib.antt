@@ -1,0 +1,4 @@
+pub mod Scopes
+pub mod Labels
+pub mod Prophets
+pub mod Relocate

@@ -1,0 +1,48 @@
+// Scopes, addresses, the label table and prophets: assembler/src/relocate.rs.
+use asm::RowCount;
+ghost use mathlib.Core.Path.{_≡_};
+
+// A count of words, the source's counter: an address. It is never added to a row count.
+#[repr(C)]
+pub struct WordAddress(pub u64);
+
+// An entry of the lent label table: kind 0 call, 1 `.LBL`, 2 prophet; the name's start and length in the source without its colon;
+// the address that the row marks (a prophet label's host), 0 where it is unmapped.
+#[repr(C)]
+pub struct LabelEntry {
+    pub kind: u8,
+    pub mapped: bool,
+    pub start: usize,
+    pub length: usize,
+    pub address: WordAddress,
+}
+
+// Why a source or a prophet list is refused before its instructions are looked at.
+pub enum RelocateRefusal {
+    // 1: source above 65,536 bytes.
+    SourceTooLong,
+    // 2: a byte of the source above 127, with the offset of the first.
+    ByteAbove127(usize),
+    // 3: an unreadable row, with the non-empty rows before it.
+    UnreadableRow(RowCount),
+    // 4: no row.
+    NoRow,
+    // 5: no main scope.
+    NoMain,
+    // 6: two.
+    TwoMains,
+    // 7: label table shorter than the label rows.
+    TableTooShort,
+    // 8: prophet list above 16,384 bytes or with another first line.
+    ProphetListMalformed,
+    // 9: a prophet that no mapped prophet row names, with its index.
+    ProphetUnknown(usize),
+}
+
+impl WordAddress {
+    pub fn new(words: u64) -> Self
+        ensures { λ r. ⌜ r ≡ record { 0 = words } ⌝ }
+    {
+        Self(words)
+    }
+}

@@ -1,0 +1,10 @@
+pub mod All
+pub mod AllLaws
+pub mod AnswerLaws
+pub mod SumLaws
+pub mod Laws
+pub mod ClassLaws
+pub mod SameLaws
+pub mod PartLaws
+pub mod FirstLaws
+pub mod Cases

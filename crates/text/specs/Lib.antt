@@ -1,0 +1,7 @@
+pub mod Bytes
+pub mod Lists
+pub mod Scan
+pub mod Classes
+pub mod Lines
+pub mod Pieces
+pub mod Answer

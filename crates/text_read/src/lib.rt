@@ -1,0 +1,103 @@
+// Numbers read from digits, as Rust's `from_str_radix` and `trim_start_matches("0x")` read them.
+// Every public function takes a part of a text, requires nothing of it, and takes the largest number that is accepted.
+ghost use mathlib.Core.Path.{_≡_};
+ghost use Prim.Native.Nat.{_+_, _≤_};
+ghost use lib.ListN.{length, drop};
+ghost use Rattle.text_read.specs.Numerals.{digitValue, unprefixed, numeral, hexadecimal, decimal};
+
+// What a text says: a number, or none.
+pub enum Numeral {
+    Value(u64),
+    Nothing,
+}
+
+// The value of a digit of either case, or 16.
+fn digit_value(b: u8) -> u64
+    ensures { λ r. ⌜ r ≡ digitValue b ⌝ }
+{
+    if b < 48 {
+        return 16;
+    }
+    if b <= 57 {
+        return (b - 48) as u64;
+    }
+    if b < 65 {
+        return 16;
+    }
+    if b <= 70 {
+        return (b - 55) as u64;
+    }
+    if b < 97 {
+        return 16;
+    }
+    if b <= 102 {
+        return (b - 87) as u64;
+    }
+    16
+}
+
+// One or more digits to the base, any count of leading zeros, at most `most`.
+fn read_digits(digits: &[u8], base: u64, most: u64) -> Numeral
+    requires { ⌜ (2 ≤ base) × (base ≤ 16) ⌝ }
+    ensures { λ r. ⌜ r ≡ numeral base (most + 1) (now (digits .entry)) ⌝ }
+{
+    if digits.len() == 0 {
+        return Numeral::Nothing;
+    }
+    let mut value: u64 = 0;
+    let mut i: usize = 0;
+    while i < digits.len() {
+        let d = digit_value(digits[i]);
+        if base <= d {
+            return Numeral::Nothing;
+        }
+        if most < d {
+            return Numeral::Nothing;
+        }
+        if (most - d) / base < value {
+            return Numeral::Nothing;
+        }
+        value = value * base + d;
+        i += 1;
+    }
+    Numeral::Value(value)
+}
+
+// How many bytes `0x`, once or repeated, take at the start.
+fn prefix_length(text: &[u8]) -> usize
+    ensures { λ r. ⌜ (r ≤ length (now (text .entry))) × (drop r (now (text .entry)) ≡ unprefixed (now (text .entry))) ⌝ }
+{
+    let mut i: usize = 0;
+    while 2 <= text.len() - i {
+        if text[i] != 48 {
+            return i;
+        }
+        if text[i + 1] != 120 {
+            return i;
+        }
+        i += 2;
+    }
+    i
+}
+
+// Hexadecimal digits of either case after any `0x`, repeated or none, and an optional `+`; at most `most`.
+pub fn read_hexadecimal(text: &[u8], most: u64) -> Numeral
+    ensures { λ r. ⌜ r ≡ hexadecimal (most + 1) (now (text .entry)) ⌝ }
+{
+    let n = prefix_length(text);
+    let rest = &text[n..];
+    if rest.len() == 0 {
+        return Numeral::Nothing;
+    }
+    if rest[0] == 43 {
+        return read_digits(&rest[1..], 16, most);
+    }
+    read_digits(rest, 16, most)
+}
+
+// Decimal digits, one or more, any count of leading zeros, at most `most`.
+pub fn read_decimal(text: &[u8], most: u64) -> Numeral
+    ensures { λ r. ⌜ r ≡ decimal (most + 1) (now (text .entry)) ⌝ }
+{
+    read_digits(text, 10, most)
+}

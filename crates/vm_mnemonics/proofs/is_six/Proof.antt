@@ -1,0 +1,29 @@
+-- `vm_mnemonics::is_six` meets its contract.
+use Rattle.vm_mnemonics.proofs.Laws.{entry-long}
+use Rattle.vm_mnemonics.specs.ByLength.{sixes}
+use mathlib.Core.Path.{refl}
+use borrow.Author.Needs.{needs}
+use Rattle.vm_mnemonics.proofs.is_six.Statement.{statement}
+use Rattle.vm_mnemonics.proofs.is_six.Tie as tie
+
+mul-word : tie.Need-mul-word
+mul-word c = search needs
+
+array-copy-out-word : tie.Need-array-copy-out-word
+array-copy-out-word c = search needs
+
+slice-aggregate-same-bytes : tie.Need-slice-aggregate-same-bytes
+unfolding sixes
+slice-aggregate-same-bytes c = entry-long 5 6 sixes refl (c .before .before .before .args .p) (c .before .before .before .pre)
+
+same-bytes-requires : tie.Need-same-bytes-requires
+same-bytes-requires c κs = search needs
+
+returns : tie.Need-returns
+unfolding sixes
+returns c = c .same-bytes .ensures
+
+pub is-six-spec : {M : Type 1} → statement M
+is-six-spec =
+    tie.close
+    (tie.spec mul-word array-copy-out-word slice-aggregate-same-bytes same-bytes-requires returns)

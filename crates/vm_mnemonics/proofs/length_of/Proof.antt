@@ -1,0 +1,19 @@
+-- `vm_mnemonics::length_of` meets its contract.
+use Rattle.vm_mnemonics.specs.ByLength.{lengths}
+use mathlib.Core.Path.{refl}
+use borrow.Author.Needs.{needs}
+use Rattle.vm_mnemonics.proofs.length_of.Statement.{statement}
+use Rattle.vm_mnemonics.proofs.length_of.Tie as tie
+
+mul-result : tie.Need-mul-result
+mul-result c = search needs
+
+array-read-result : tie.Need-array-read-result
+array-read-result c = search needs
+
+returns : tie.Need-returns
+unfolding lengths
+returns c = refl
+
+pub length-of-spec : {M : Type 1} → statement M
+length-of-spec = tie.close (tie.spec mul-result array-read-result returns)
