@@ -3,8 +3,6 @@
 use libc::STDIN_FILENO;
 use libc::STDOUT_FILENO;
 use text_write::Put;
-use vm_hardware::OlaRegister;
-use vm_hardware::OlaSpecialRegister;
 use vm_hardware::RegisterFound;
 use vm_hardware::SpecialFound;
 use vm_opcodes::OpcodeFound;
@@ -36,7 +34,7 @@ fn is_operation(piece: &[u8]) -> bool {
     match found {
         OpcodeFound::Is(opcode) => {
             let mut text = [0u8; 32];
-            let put = vm_mnemonics::put_token(opcode, &mut text, 0);
+            let put = vm_tokens::put_token(opcode, &mut text, 0);
             print_put(b"operation ", &text, put);
             true
         }
@@ -46,11 +44,11 @@ fn is_operation(piece: &[u8]) -> bool {
 
 // Whether the piece is a register; prints it if so.
 fn is_register(piece: &[u8]) -> bool {
-    let found = OlaRegister::from_str(piece);
+    let found = vm_registers::register_from_str(piece);
     match found {
         RegisterFound::Is(register) => {
             let mut text = [0u8; 32];
-            let put = register.put(&mut text, 0);
+            let put = vm_registers::put_register(register, &mut text, 0);
             print_put(b"register ", &text, put);
             true
         }
@@ -60,11 +58,11 @@ fn is_register(piece: &[u8]) -> bool {
 
 // Whether the piece is a special register; prints it if so.
 fn is_special(piece: &[u8]) -> bool {
-    let found = OlaSpecialRegister::from_str(piece);
+    let found = vm_registers::special_from_str(piece);
     match found {
         SpecialFound::Is(register) => {
             let mut text = [0u8; 32];
-            let put = register.put(&mut text, 0);
+            let put = vm_registers::put_special(register, &mut text, 0);
             print_put(b"special ", &text, put);
             true
         }
@@ -107,7 +105,7 @@ fn print_piece(piece: &[u8]) {
 fn print_row(row: &[u8]) {
     let mut at: usize = 0;
     while at < row.len() {
-        let piece = text::first_piece(&row[at..]);
+        let piece = text_lines::first_piece(&row[at..]);
         if piece.length == 0 {
             return;
         }
@@ -123,7 +121,7 @@ fn print_rows(source: &[u8]) {
     let mut at: usize = 0;
     while at < source.len() {
         let rest = &source[at..];
-        let line = text::first_line(rest);
+        let line = text_lines::first_line(rest);
         let length = line.length;
         print_row(&rest[..length]);
         at += line.next;

@@ -6,5 +6,4 @@ pub mod Laws
 pub mod ClassLaws
 pub mod SameLaws
 pub mod PartLaws
-pub mod FirstLaws
 pub mod Cases

@@ -1,11 +1,9 @@
-// Bytes by class, scans, lines and pieces of a text: what String, Regex, `lines` and `split_whitespace` did in the Rust.
-// Every function takes a part of a text and requires nothing of it.
+// Bytes by class, the one scan over them, and comparing: what String and Regex did in the Rust. Every function takes a part of a text and
+// requires nothing of it. What the first line and the first piece of a text are is defined here, and found by crate text_lines.
 ghost use mathlib.Core.Path.{_≡_};
 ghost use Rattle.text.specs.Bytes.{isSpace, isDigit, isLetter, isWord, same};
 ghost use Rattle.text.specs.Scan.{scan};
 ghost use Rattle.text.specs.Classes.{holds};
-ghost use Rattle.text.specs.Lines.{firstLine};
-ghost use Rattle.text.specs.Pieces.{firstPiece};
 
 // A class of bytes.
 pub enum ByteClass {
@@ -132,41 +130,8 @@ pub struct Line {
     pub next: usize,
 }
 
-// The first line, as Rust's `lines` gives it: `\n` or `\r\n` ends a line, and the last ending is optional.
-// The empty text has no line, and gives 0 and 0.
-pub fn first_line(text: &[u8]) -> Line
-    ensures { λ r. ⌜ r ≡ firstLine (now (text .entry)) ⌝ }
-{
-    let n = ByteClass::IsNot(10).scan(text);
-    if n == text.len() {
-        return Line { length: n, next: n };
-    }
-    if n == 0 {
-        return Line { length: 0, next: 1 };
-    }
-    if text[n - 1] == 13 {
-        return Line {
-            length: n - 1,
-            next: n + 1,
-        };
-    }
-    Line {
-        length: n,
-        next: n + 1,
-    }
-}
-
 // The first piece of a row: where it starts, and its length, 0 where the row has no piece.
 pub struct Piece {
     pub start: usize,
     pub length: usize,
-}
-
-// The first piece, as Rust's `split_whitespace` gives it.
-pub fn first_piece(row: &[u8]) -> Piece
-    ensures { λ r. ⌜ r ≡ firstPiece (now (row .entry)) ⌝ }
-{
-    let start = ByteClass::Space.scan(row);
-    let length = ByteClass::NotSpace.scan(&row[start..]);
-    Piece { start, length }
 }

@@ -10,8 +10,7 @@ use borrow.Author.Tests.{eq-eqb, ne-eqb}
 use lib.Dec.{lit<, lit≤}
 use lib.ListN.{length, getD, drop, drop-of-length-le}
 use lib.Seq.{drop-cons}
-use Rattle.text.specs.Bytes.{bytes, isDigit, same}
-use Rattle.text_write.proofs.Laws.{same-count, same-into}
+use Rattle.text.specs.Bytes.{isDigit, same}
 use Rattle.vm_opcodes.specs.Operations.{bit}
 use Rattle.vm_opcodes.proofs.Table.{at}
 use Rattle.vm_hardware.specs.Registers.{placeIndex, placeBit, registers, registerIndex, registerAt, registerBit, firstRegister, registerText, registerOf, specialText, specialOf}
@@ -185,32 +184,3 @@ pub special-of-text : (s : OlaSpecialRegister) → specialOf (specialText s) ≡
 unfolding specialOf same
 special-of-text PC = refl
 special-of-text PSP = refl
-
--- what a piece was told to be, by the comparisons with the two spellings
-module _ (s : List ℕ) (a : Bool) (e : a ≡ same s (bytes "pc")) where
-  pub special-pc : a ≡ true → IsSpecial PC ≡ specialOf s
-  unfolding specialOf
-  special-pc h = rw (sym e ∙ h)
-
-  module _ (b : Bool) (f : b ≡ same s (bytes "psp")) where
-    pub special-psp : a ≡ false → b ≡ true → IsSpecial PSP ≡ specialOf s
-    unfolding specialOf
-    special-psp h g = rw (sym e ∙ h, sym f ∙ g)
-
-    pub special-none : a ≡ false → b ≡ false → NoSpecial ≡ specialOf s
-    unfolding specialOf
-    special-none h g = rw (sym e ∙ h, sym f ∙ g)
-
-pub ruleset special-laws = (special-pc, special-psp, special-none)
-
--- the bytes that the writers lend are the spellings
-pub register-spelt : (r : OlaRegister) (k : ℕ) → k ≡ registerIndex r → 114 ∷ (48 + k) ∷ [] ≡ registerText r
-register-spelt r k e = ap (λ (j : ℕ). 114 ∷ (48 + j) ∷ []) e
-
-pub pc-spelt : (s : OlaSpecialRegister) → s ≡ PC → bytes "pc" ≡ specialText s
-pc-spelt s e = ap specialText (sym e)
-
-pub psp-spelt : (s : OlaSpecialRegister) → s ≡ PSP → bytes "psp" ≡ specialText s
-psp-spelt s e = ap specialText (sym e)
-
-pub ruleset put-laws = (register-spelt, pc-spelt, psp-spelt, same-count, same-into)

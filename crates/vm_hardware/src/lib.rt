@@ -1,9 +1,7 @@
 // Registers: core/src/vm/hardware.rs, registers only.
-use text_write::Put;
 ghost use mathlib.Core.Path.{_≡_};
 ghost use Prim.Native.Nat.{_^_};
-ghost use Rattle.text_write.specs.Put.{putCount, putInto};
-ghost use Rattle.vm_hardware.specs.Registers.{placeIndex, registerIndex, registerBit, registerIn, registerText, registerOf, specialText, specialOf};
+ghost use Rattle.vm_hardware.specs.Registers.{placeIndex, registerIndex, registerBit, registerIn};
 
 // The ten registers, in the order of the Rust.
 pub enum OlaRegister {
@@ -44,7 +42,7 @@ pub enum SpecialFound {
 }
 
 // The registers by their index.
-const REGISTERS: [OlaRegister; 10] = [
+pub const REGISTERS: [OlaRegister; 10] = [
     OlaRegister::R0,
     OlaRegister::R1,
     OlaRegister::R2,
@@ -63,11 +61,6 @@ const REGISTER_SHIFTS: [[u8; 10]; 3] = [
     [42, 43, 44, 45, 46, 47, 48, 49, 50, 51],
     [32, 33, 34, 35, 36, 37, 38, 39, 40, 41],
 ];
-
-// The spellings of the special registers.
-const PC: [u8; 2] = *b"pc";
-
-const PSP: [u8; 3] = *b"psp";
 
 impl Place {
     pub fn index(self) -> usize
@@ -114,61 +107,6 @@ impl OlaRegister {
         ensures { λ r. ⌜ r ≡ 2 ^ registerBit place self ⌝ }
     {
         1 << (self.binary_bit_shift(place) as u64)
-    }
-
-    // The register that a piece names: `r0` to `r9`.
-    pub fn from_str(piece: &[u8]) -> RegisterFound
-        ensures { λ r. ⌜ r ≡ registerOf (now (piece .entry)) ⌝ }
-    {
-        if piece.len() != 2 {
-            return RegisterFound::Nothing;
-        }
-        if piece[0] != 114 {
-            return RegisterFound::Nothing;
-        }
-        let digit = piece[1];
-        if digit < 48 {
-            return RegisterFound::Nothing;
-        }
-        if 57 < digit {
-            return RegisterFound::Nothing;
-        }
-        let i = (digit - 48) as usize;
-        RegisterFound::Is(REGISTERS[i])
-    }
-
-    // Writes `r0` to `r9`.
-    pub fn put(self, text: &mut [u8], at: usize) -> Put
-        ensures { λ r. ⌜ (r ≡ putCount (now (text .entry)) at (registerText self)) × (now (text .exit) ≡ putInto (now (text .entry)) at (registerText self)) ⌝ }
-    {
-        let digit = 48 + (self.index() as u8);
-        let name = [114, digit];
-        text_write::put_bytes(text, at, &name)
-    }
-}
-
-impl OlaSpecialRegister {
-    // The special register that a piece names: `pc` or `psp`.
-    pub fn from_str(piece: &[u8]) -> SpecialFound
-        ensures { λ r. ⌜ r ≡ specialOf (now (piece .entry)) ⌝ }
-    {
-        if text::same_bytes(piece, &PC) {
-            return SpecialFound::Is(OlaSpecialRegister::PC);
-        }
-        if text::same_bytes(piece, &PSP) {
-            return SpecialFound::Is(OlaSpecialRegister::PSP);
-        }
-        SpecialFound::Nothing
-    }
-
-    // Writes `pc` or `psp`.
-    pub fn put(self, text: &mut [u8], at: usize) -> Put
-        ensures { λ r. ⌜ (r ≡ putCount (now (text .entry)) at (specialText self)) × (now (text .exit) ≡ putInto (now (text .entry)) at (specialText self)) ⌝ }
-    {
-        match self {
-            OlaSpecialRegister::PC => text_write::put_bytes(text, at, &PC),
-            OlaSpecialRegister::PSP => text_write::put_bytes(text, at, &PSP),
-        }
     }
 }
 

@@ -1,6 +1,6 @@
 -- "Mnemonics are compared and written as fixed lower-case spellings; RC is `range`, EVENT is `log`."
 use Prim.Native.Nat.{ℕ}
-use mathlib.Core.List.{List, map}
+use mathlib.Core.List.{List}
 use Rattle.text.specs.Bytes.{bytes, same}
 use Rattle.vm_opcodes.specs.declared.OlaOpcode.{OlaOpcode}
 use Rattle.vm_opcodes.specs.declared.OlaOpcode.the-variants.{ADD, MUL, EQ, ASSERT, MOV, JMP, CJMP, CALL, RET, MLOAD, MSTORE, END, RC, AND, OR, XOR, NOT, NEQ, GTE, POSEIDON, SLOAD, SSTORE, TLOAD, TSTORE, SCCALL, SIGCHECK, EVENT}
@@ -36,10 +36,6 @@ mnemonic TSTORE = bytes "tstore"
 mnemonic SCCALL = bytes "sccall"
 mnemonic SIGCHECK = bytes "sigcheck"
 mnemonic EVENT = bytes "log"
-
--- the spellings in the order of `OlaOpcode`
-abbrev pub mnemonics : List (List ℕ)
-mnemonics = map mnemonic operations
 
 -- the operation that a piece spells
 abbrev pub operationOf : List ℕ → OpcodeFound

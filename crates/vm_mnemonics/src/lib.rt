@@ -1,353 +1,214 @@
-// The mnemonics of the operations, compared and written as fixed byte strings: `token` and `from_str` of core/src/vm/opcodes.rs.
-use text_write::Put;
+// The mnemonics of the operations as fixed byte strings, compared with a piece: `from_str` of core/src/vm/opcodes.rs. They are written by
+// crate vm_tokens.
+// The length of the piece decides which mnemonics it is compared with.
 use vm_opcodes::OlaOpcode;
 use vm_opcodes::OpcodeFound;
 ghost use mathlib.Core.Path.{_≡_};
-ghost use mathlib.Core.List.{[]};
-ghost use Prim.Native.Nat.{_<_};
-ghost use lib.ListN.{getD};
+ghost use lib.ListN.{length};
 ghost use Rattle.text.specs.Bytes.{same};
-ghost use Rattle.text_write.specs.Put.{putCount, putInto};
-ghost use Rattle.vm_opcodes.specs.Operations.{operations};
-ghost use Rattle.vm_mnemonics.specs.Mnemonics.{mnemonic, mnemonics, operationOf};
-ghost use Rattle.vm_mnemonics.specs.ByLength.{lengths, places, twos, threes, fours, fives, sixes, eights};
+ghost use Rattle.vm_mnemonics.specs.Mnemonics.{mnemonic, operationOf};
 
-const ADD: [u8; 3] = *b"add";
+pub const ADD: [u8; 3] = *b"add";
 
-const MUL: [u8; 3] = *b"mul";
+pub const MUL: [u8; 3] = *b"mul";
 
-const EQ: [u8; 2] = *b"eq";
+pub const EQ: [u8; 2] = *b"eq";
 
-const ASSERT: [u8; 6] = *b"assert";
+pub const ASSERT: [u8; 6] = *b"assert";
 
-const MOV: [u8; 3] = *b"mov";
+pub const MOV: [u8; 3] = *b"mov";
 
-const JMP: [u8; 3] = *b"jmp";
+pub const JMP: [u8; 3] = *b"jmp";
 
-const CJMP: [u8; 4] = *b"cjmp";
+pub const CJMP: [u8; 4] = *b"cjmp";
 
-const CALL: [u8; 4] = *b"call";
+pub const CALL: [u8; 4] = *b"call";
 
-const RET: [u8; 3] = *b"ret";
+pub const RET: [u8; 3] = *b"ret";
 
-const MLOAD: [u8; 5] = *b"mload";
+pub const MLOAD: [u8; 5] = *b"mload";
 
-const MSTORE: [u8; 6] = *b"mstore";
+pub const MSTORE: [u8; 6] = *b"mstore";
 
-const END: [u8; 3] = *b"end";
+pub const END: [u8; 3] = *b"end";
 
-const RC: [u8; 5] = *b"range";
+pub const RC: [u8; 5] = *b"range";
 
-const AND: [u8; 3] = *b"and";
+pub const AND: [u8; 3] = *b"and";
 
-const OR: [u8; 2] = *b"or";
+pub const OR: [u8; 2] = *b"or";
 
-const XOR: [u8; 3] = *b"xor";
+pub const XOR: [u8; 3] = *b"xor";
 
-const NOT: [u8; 3] = *b"not";
+pub const NOT: [u8; 3] = *b"not";
 
-const NEQ: [u8; 3] = *b"neq";
+pub const NEQ: [u8; 3] = *b"neq";
 
-const GTE: [u8; 3] = *b"gte";
+pub const GTE: [u8; 3] = *b"gte";
 
-const POSEIDON: [u8; 8] = *b"poseidon";
+pub const POSEIDON: [u8; 8] = *b"poseidon";
 
-const SLOAD: [u8; 5] = *b"sload";
+pub const SLOAD: [u8; 5] = *b"sload";
 
-const SSTORE: [u8; 6] = *b"sstore";
+pub const SSTORE: [u8; 6] = *b"sstore";
 
-const TLOAD: [u8; 5] = *b"tload";
+pub const TLOAD: [u8; 5] = *b"tload";
 
-const TSTORE: [u8; 6] = *b"tstore";
+pub const TSTORE: [u8; 6] = *b"tstore";
 
-const SCCALL: [u8; 6] = *b"sccall";
+pub const SCCALL: [u8; 6] = *b"sccall";
 
-const SIGCHECK: [u8; 8] = *b"sigcheck";
+pub const SIGCHECK: [u8; 8] = *b"sigcheck";
 
-const EVENT: [u8; 3] = *b"log";
+pub const EVENT: [u8; 3] = *b"log";
 
-// The mnemonics by their length, each list in the order of OlaOpcode.
-const TWO: [[u8; 2]; 2] = [EQ, OR];
-
-const THREE: [[u8; 3]; 12] = [ADD, MUL, MOV, JMP, RET, END, AND, XOR, NOT, NEQ, GTE, EVENT];
-
-const FOUR: [[u8; 4]; 2] = [CJMP, CALL];
-
-const FIVE: [[u8; 5]; 4] = [MLOAD, RC, SLOAD, TLOAD];
-
-const SIX: [[u8; 6]; 5] = [ASSERT, MSTORE, SSTORE, TSTORE, SCCALL];
-
-const EIGHT: [[u8; 8]; 2] = [POSEIDON, SIGCHECK];
-
-// The length of each operation's mnemonic, and its place among those of that length, by the operation's index.
-const LENGTHS: [usize; 27] = [
-    3,
-    3,
-    2,
-    6,
-    3,
-    3,
-    4,
-    4,
-    3,
-    5,
-    6,
-    3,
-    5,
-    3,
-    2,
-    3,
-    3,
-    3,
-    3,
-    8,
-    5,
-    6,
-    5,
-    6,
-    6,
-    8,
-    3,
-];
-
-const PLACES: [usize; 27] = [
-    0,
-    1,
-    0,
-    0,
-    2,
-    3,
-    0,
-    1,
-    4,
-    0,
-    1,
-    5,
-    1,
-    6,
-    1,
-    7,
-    8,
-    9,
-    10,
-    0,
-    2,
-    2,
-    3,
-    3,
-    4,
-    1,
-    11,
-];
-
-// The operations by their index.
-const OPERATIONS: [OlaOpcode; 27] = [
-    OlaOpcode::ADD,
-    OlaOpcode::MUL,
-    OlaOpcode::EQ,
-    OlaOpcode::ASSERT,
-    OlaOpcode::MOV,
-    OlaOpcode::JMP,
-    OlaOpcode::CJMP,
-    OlaOpcode::CALL,
-    OlaOpcode::RET,
-    OlaOpcode::MLOAD,
-    OlaOpcode::MSTORE,
-    OlaOpcode::END,
-    OlaOpcode::RC,
-    OlaOpcode::AND,
-    OlaOpcode::OR,
-    OlaOpcode::XOR,
-    OlaOpcode::NOT,
-    OlaOpcode::NEQ,
-    OlaOpcode::GTE,
-    OlaOpcode::POSEIDON,
-    OlaOpcode::SLOAD,
-    OlaOpcode::SSTORE,
-    OlaOpcode::TLOAD,
-    OlaOpcode::TSTORE,
-    OlaOpcode::SCCALL,
-    OlaOpcode::SIGCHECK,
-    OlaOpcode::EVENT,
-];
-
-fn length_of(i: usize) -> usize
-    requires { ⌜ i < 27 ⌝ }
-    ensures { λ r. ⌜ r ≡ getD lengths i 0 ⌝ }
+// The operation whose mnemonic is a piece of two bytes.
+fn of_two(piece: &[u8]) -> OpcodeFound
+    requires { ⌜ length (now piece) ≡ 2 ⌝ }
+    ensures { λ r. ⌜ r ≡ operationOf (now (piece .entry)) ⌝ }
 {
-    LENGTHS[i]
-}
-
-fn place_of(i: usize) -> usize
-    requires { ⌜ i < 27 ⌝ }
-    ensures { λ r. ⌜ r ≡ getD places i 0 ⌝ }
-{
-    PLACES[i]
-}
-
-fn operation_at(i: usize) -> OlaOpcode
-    requires { ⌜ i < 27 ⌝ }
-    ensures { λ r. ⌜ r ≡ getD operations i OlaOpcode.ADD ⌝ }
-{
-    OPERATIONS[i]
-}
-
-fn is_two(p: usize, piece: &[u8]) -> bool
-    requires { ⌜ p < 2 ⌝ }
-    ensures { λ r. ⌜ r ≡ same (now (piece .entry)) (getD twos p []) ⌝ }
-{
-    let word = TWO[p];
-    text::same_bytes(piece, &word)
-}
-
-fn put_two(p: usize, text: &mut [u8], at: usize) -> Put
-    requires { ⌜ p < 2 ⌝ }
-    ensures { λ r. ⌜ (r ≡ putCount (now (text .entry)) at (getD twos p [])) × (now (text .exit) ≡ putInto (now (text .entry)) at (getD twos p [])) ⌝ }
-{
-    let word = TWO[p];
-    text_write::put_bytes(text, at, &word)
-}
-
-fn is_three(p: usize, piece: &[u8]) -> bool
-    requires { ⌜ p < 12 ⌝ }
-    ensures { λ r. ⌜ r ≡ same (now (piece .entry)) (getD threes p []) ⌝ }
-{
-    let word = THREE[p];
-    text::same_bytes(piece, &word)
-}
-
-fn put_three(p: usize, text: &mut [u8], at: usize) -> Put
-    requires { ⌜ p < 12 ⌝ }
-    ensures { λ r. ⌜ (r ≡ putCount (now (text .entry)) at (getD threes p [])) × (now (text .exit) ≡ putInto (now (text .entry)) at (getD threes p [])) ⌝ }
-{
-    let word = THREE[p];
-    text_write::put_bytes(text, at, &word)
-}
-
-fn is_four(p: usize, piece: &[u8]) -> bool
-    requires { ⌜ p < 2 ⌝ }
-    ensures { λ r. ⌜ r ≡ same (now (piece .entry)) (getD fours p []) ⌝ }
-{
-    let word = FOUR[p];
-    text::same_bytes(piece, &word)
-}
-
-fn put_four(p: usize, text: &mut [u8], at: usize) -> Put
-    requires { ⌜ p < 2 ⌝ }
-    ensures { λ r. ⌜ (r ≡ putCount (now (text .entry)) at (getD fours p [])) × (now (text .exit) ≡ putInto (now (text .entry)) at (getD fours p [])) ⌝ }
-{
-    let word = FOUR[p];
-    text_write::put_bytes(text, at, &word)
-}
-
-fn is_five(p: usize, piece: &[u8]) -> bool
-    requires { ⌜ p < 4 ⌝ }
-    ensures { λ r. ⌜ r ≡ same (now (piece .entry)) (getD fives p []) ⌝ }
-{
-    let word = FIVE[p];
-    text::same_bytes(piece, &word)
-}
-
-fn put_five(p: usize, text: &mut [u8], at: usize) -> Put
-    requires { ⌜ p < 4 ⌝ }
-    ensures { λ r. ⌜ (r ≡ putCount (now (text .entry)) at (getD fives p [])) × (now (text .exit) ≡ putInto (now (text .entry)) at (getD fives p [])) ⌝ }
-{
-    let word = FIVE[p];
-    text_write::put_bytes(text, at, &word)
-}
-
-fn is_six(p: usize, piece: &[u8]) -> bool
-    requires { ⌜ p < 5 ⌝ }
-    ensures { λ r. ⌜ r ≡ same (now (piece .entry)) (getD sixes p []) ⌝ }
-{
-    let word = SIX[p];
-    text::same_bytes(piece, &word)
-}
-
-fn put_six(p: usize, text: &mut [u8], at: usize) -> Put
-    requires { ⌜ p < 5 ⌝ }
-    ensures { λ r. ⌜ (r ≡ putCount (now (text .entry)) at (getD sixes p [])) × (now (text .exit) ≡ putInto (now (text .entry)) at (getD sixes p [])) ⌝ }
-{
-    let word = SIX[p];
-    text_write::put_bytes(text, at, &word)
-}
-
-fn is_eight(p: usize, piece: &[u8]) -> bool
-    requires { ⌜ p < 2 ⌝ }
-    ensures { λ r. ⌜ r ≡ same (now (piece .entry)) (getD eights p []) ⌝ }
-{
-    let word = EIGHT[p];
-    text::same_bytes(piece, &word)
-}
-
-fn put_eight(p: usize, text: &mut [u8], at: usize) -> Put
-    requires { ⌜ p < 2 ⌝ }
-    ensures { λ r. ⌜ (r ≡ putCount (now (text .entry)) at (getD eights p [])) × (now (text .exit) ≡ putInto (now (text .entry)) at (getD eights p [])) ⌝ }
-{
-    let word = EIGHT[p];
-    text_write::put_bytes(text, at, &word)
-}
-
-// Whether a piece is the mnemonic of the operation of index i.
-fn is_token(i: usize, piece: &[u8]) -> bool
-    requires { ⌜ i < 27 ⌝ }
-    ensures { λ r. ⌜ r ≡ same (now (piece .entry)) (getD mnemonics i []) ⌝ }
-{
-    let n = length_of(i);
-    let p = place_of(i);
-    if n == 2 {
-        return is_two(p, piece);
+    if text::same_bytes(piece, &EQ) {
+        return OpcodeFound::Is(OlaOpcode::EQ);
     }
-    if n == 3 {
-        return is_three(p, piece);
+    if text::same_bytes(piece, &OR) {
+        return OpcodeFound::Is(OlaOpcode::OR);
     }
-    if n == 4 {
-        return is_four(p, piece);
+    OpcodeFound::Nothing
+}
+
+// Whether a piece is a word of three bytes, as twelve mnemonics are.
+fn is_three(piece: &[u8], word: [u8; 3]) -> bool
+    ensures { λ r. ⌜ r ≡ same (now (piece .entry)) word ⌝ }
+{
+    text::same_bytes(piece, &word)
+}
+
+// The operation whose mnemonic is a piece of three bytes.
+fn of_three(piece: &[u8]) -> OpcodeFound
+    requires { ⌜ length (now piece) ≡ 3 ⌝ }
+    ensures { λ r. ⌜ r ≡ operationOf (now (piece .entry)) ⌝ }
+{
+    if is_three(piece, ADD) {
+        return OpcodeFound::Is(OlaOpcode::ADD);
     }
-    if n == 5 {
-        return is_five(p, piece);
+    if is_three(piece, MUL) {
+        return OpcodeFound::Is(OlaOpcode::MUL);
     }
-    if n == 6 {
-        return is_six(p, piece);
+    if is_three(piece, MOV) {
+        return OpcodeFound::Is(OlaOpcode::MOV);
     }
-    is_eight(p, piece)
+    if is_three(piece, JMP) {
+        return OpcodeFound::Is(OlaOpcode::JMP);
+    }
+    if is_three(piece, RET) {
+        return OpcodeFound::Is(OlaOpcode::RET);
+    }
+    if is_three(piece, END) {
+        return OpcodeFound::Is(OlaOpcode::END);
+    }
+    if is_three(piece, AND) {
+        return OpcodeFound::Is(OlaOpcode::AND);
+    }
+    if is_three(piece, XOR) {
+        return OpcodeFound::Is(OlaOpcode::XOR);
+    }
+    if is_three(piece, NOT) {
+        return OpcodeFound::Is(OlaOpcode::NOT);
+    }
+    if is_three(piece, NEQ) {
+        return OpcodeFound::Is(OlaOpcode::NEQ);
+    }
+    if is_three(piece, GTE) {
+        return OpcodeFound::Is(OlaOpcode::GTE);
+    }
+    if is_three(piece, EVENT) {
+        return OpcodeFound::Is(OlaOpcode::EVENT);
+    }
+    OpcodeFound::Nothing
+}
+
+// The operation whose mnemonic is a piece of four bytes.
+fn of_four(piece: &[u8]) -> OpcodeFound
+    requires { ⌜ length (now piece) ≡ 4 ⌝ }
+    ensures { λ r. ⌜ r ≡ operationOf (now (piece .entry)) ⌝ }
+{
+    if text::same_bytes(piece, &CJMP) {
+        return OpcodeFound::Is(OlaOpcode::CJMP);
+    }
+    if text::same_bytes(piece, &CALL) {
+        return OpcodeFound::Is(OlaOpcode::CALL);
+    }
+    OpcodeFound::Nothing
+}
+
+// The operation whose mnemonic is a piece of five bytes.
+fn of_five(piece: &[u8]) -> OpcodeFound
+    requires { ⌜ length (now piece) ≡ 5 ⌝ }
+    ensures { λ r. ⌜ r ≡ operationOf (now (piece .entry)) ⌝ }
+{
+    if text::same_bytes(piece, &MLOAD) {
+        return OpcodeFound::Is(OlaOpcode::MLOAD);
+    }
+    if text::same_bytes(piece, &RC) {
+        return OpcodeFound::Is(OlaOpcode::RC);
+    }
+    if text::same_bytes(piece, &SLOAD) {
+        return OpcodeFound::Is(OlaOpcode::SLOAD);
+    }
+    if text::same_bytes(piece, &TLOAD) {
+        return OpcodeFound::Is(OlaOpcode::TLOAD);
+    }
+    OpcodeFound::Nothing
+}
+
+// The operation whose mnemonic is a piece of six bytes.
+fn of_six(piece: &[u8]) -> OpcodeFound
+    requires { ⌜ length (now piece) ≡ 6 ⌝ }
+    ensures { λ r. ⌜ r ≡ operationOf (now (piece .entry)) ⌝ }
+{
+    if text::same_bytes(piece, &ASSERT) {
+        return OpcodeFound::Is(OlaOpcode::ASSERT);
+    }
+    if text::same_bytes(piece, &MSTORE) {
+        return OpcodeFound::Is(OlaOpcode::MSTORE);
+    }
+    if text::same_bytes(piece, &SSTORE) {
+        return OpcodeFound::Is(OlaOpcode::SSTORE);
+    }
+    if text::same_bytes(piece, &TSTORE) {
+        return OpcodeFound::Is(OlaOpcode::TSTORE);
+    }
+    if text::same_bytes(piece, &SCCALL) {
+        return OpcodeFound::Is(OlaOpcode::SCCALL);
+    }
+    OpcodeFound::Nothing
+}
+
+// The operation whose mnemonic is a piece of eight bytes.
+fn of_eight(piece: &[u8]) -> OpcodeFound
+    requires { ⌜ length (now piece) ≡ 8 ⌝ }
+    ensures { λ r. ⌜ r ≡ operationOf (now (piece .entry)) ⌝ }
+{
+    if text::same_bytes(piece, &POSEIDON) {
+        return OpcodeFound::Is(OlaOpcode::POSEIDON);
+    }
+    if text::same_bytes(piece, &SIGCHECK) {
+        return OpcodeFound::Is(OlaOpcode::SIGCHECK);
+    }
+    OpcodeFound::Nothing
 }
 
 // The operation whose mnemonic a piece is, letter by letter: no other case, nothing around it.
 pub fn from_str(piece: &[u8]) -> OpcodeFound
     ensures { λ r. ⌜ r ≡ operationOf (now (piece .entry)) ⌝ }
 {
-    let mut i = 0;
-    while i < 27 {
-        if is_token(i, piece) {
-            return OpcodeFound::Is(operation_at(i));
-        }
-        i += 1;
+    match piece.len() {
+        2 => of_two(piece),
+        3 => of_three(piece),
+        4 => of_four(piece),
+        5 => of_five(piece),
+        6 => of_six(piece),
+        8 => of_eight(piece),
+        _ => OpcodeFound::Nothing,
     }
-    OpcodeFound::Nothing
-}
-
-// Writes the operation's mnemonic.
-pub fn put_token(opcode: OlaOpcode, text: &mut [u8], at: usize) -> Put
-    ensures { λ r. ⌜ (r ≡ putCount (now (text .entry)) at (mnemonic opcode)) × (now (text .exit) ≡ putInto (now (text .entry)) at (mnemonic opcode)) ⌝ }
-{
-    let i = opcode.index();
-    let n = length_of(i);
-    let p = place_of(i);
-    if n == 2 {
-        return put_two(p, text, at);
-    }
-    if n == 3 {
-        return put_three(p, text, at);
-    }
-    if n == 4 {
-        return put_four(p, text, at);
-    }
-    if n == 5 {
-        return put_five(p, text, at);
-    }
-    if n == 6 {
-        return put_six(p, text, at);
-    }
-    put_eight(p, text, at)
 }

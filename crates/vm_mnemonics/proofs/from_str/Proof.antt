@@ -1,55 +1,61 @@
--- `vm_mnemonics::from_str` meets its contract.
-use Prim.Native.Nat.{_-_, _≤_}
-use mathlib.Core.Path.{_≡_}
-use lib.ListN.{drop}
-use Rattle.text.specs.Bytes.{same}
-use Rattle.vm_opcodes.specs.Operations.{operations, firstOperation}
-use Rattle.vm_mnemonics.specs.Mnemonics.{mnemonic, operationOf}
-use Rattle.vm_mnemonics.proofs.Laws.{search-laws}
+-- `from_str` meets its contract: the length picks the comparisons, and no spelling has another length.
+use Rattle.vm_mnemonics.proofs.Laws.{uncounted}
 use Rattle.vm_mnemonics.proofs.from_str.Statement.{statement}
 use Rattle.vm_mnemonics.proofs.from_str.Tie as tie
 
-abbrev Inv-loop : tie.InvT-loop
-Inv-loop piece i₀ i = (i ≤ 27) × (operationOf piece ≡ firstOperation (λ o. same piece (mnemonic o)) (drop i operations))
+of-two-requires : tie.Need-of-two-requires
+of-two-requires c κs = c .match .keys1
 
-abbrev μ-loop : tie.MeasureT-loop
-μ-loop piece i₀ i = 27 - i
+of-three-requires : tie.Need-of-three-requires
+of-three-requires c κs = c .match .keys2
 
-loop-holds : tie.Need-loop-holds Inv-loop μ-loop
-loop-holds c = (search search-laws, search search-laws)
+of-four-requires : tie.Need-of-four-requires
+of-four-requires c κs = c .match .keys3
 
-is-token-requires : tie.Need-is-token-requires Inv-loop μ-loop
-is-token-requires c κs = search search-laws
+of-five-requires : tie.Need-of-five-requires
+of-five-requires c κs = c .match .keys4
 
-operation-at-requires : tie.Need-operation-at-requires Inv-loop μ-loop
-operation-at-requires c κs = search search-laws
+of-six-requires : tie.Need-of-six-requires
+of-six-requires c κs = c .match .keys5
 
-returns : tie.Need-returns Inv-loop μ-loop
-returns c = search search-laws
+of-eight-requires : tie.Need-of-eight-requires
+of-eight-requires c κs = c .match .keys6
 
-add-i : tie.Need-add-i Inv-loop μ-loop
-add-i c = search search-laws
+returns : tie.Need-returns
+returns c = c .of-two .ensures
 
-loop-less : tie.Need-loop-less Inv-loop μ-loop
-loop-less c = search search-laws
+returns-2 : tie.Need-returns-2
+returns-2 c = c .of-three .ensures
 
-loop-again : tie.Need-loop-again Inv-loop μ-loop
-loop-again c = (search search-laws, search search-laws)
+returns-3 : tie.Need-returns-3
+returns-3 c = c .of-four .ensures
 
-returns-2 : tie.Need-returns-2 Inv-loop μ-loop
-returns-2 c = search search-laws
+returns-4 : tie.Need-returns-4
+returns-4 c = c .of-five .ensures
+
+returns-5 : tie.Need-returns-5
+returns-5 c = c .of-six .ensures
+
+returns-6 : tie.Need-returns-6
+returns-6 c = c .of-eight .ensures
+
+returns-7 : tie.Need-returns-7
+returns-7 c = uncounted (c .before .before .args .piece .now) (c .match .rest .0 .0 .0 .0 .0 .1) (c .match .rest .0 .0 .0 .0 .1) (c .match .rest .0 .0 .0 .1) (c .match .rest .0 .0 .1) (c .match .rest .0 .1) (c .match .rest .1)
 
 pub from-str-spec : {M : Type 1} → statement M
 from-str-spec =
     tie.close
     (tie.spec
-    Inv-loop
-    μ-loop
-    loop-holds
-    is-token-requires
-    operation-at-requires
+    of-two-requires
+    of-three-requires
+    of-four-requires
+    of-five-requires
+    of-six-requires
+    of-eight-requires
     returns
-    add-i
-    loop-less
-    loop-again
-    returns-2)
+    returns-2
+    returns-3
+    returns-4
+    returns-5
+    returns-6
+    returns-7)
