@@ -110,6 +110,6 @@ impl ImmediateValue {
         ensures { λ r. ⌜ (r ≡ putCount (now (text .entry)) at (fewestText (self .number))) × (now (text .exit) ≡ putInto (now (text .entry)) at (fewestText (self .number))) ⌝ }
     {
         let number = self.number;
-        text_write::put_fewest(text, at, number)
+        text_digits::put_fewest(text, at, number)
     }
 }

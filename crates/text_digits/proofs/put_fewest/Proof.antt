@@ -1,7 +1,7 @@
 -- put_fewest: `0x` and as many digits as were counted.
-use Rattle.text_write.proofs.Steps.{fewest-laws}
-use Rattle.text_write.proofs.put_fewest.Statement.{statement}
-use Rattle.text_write.proofs.put_fewest.Tie as tie
+use Rattle.text_digits.proofs.Steps.{fewest-laws}
+use Rattle.text_digits.proofs.put_fewest.Statement.{statement}
+use Rattle.text_digits.proofs.put_fewest.Tie as tie
 
 count-digits-requires : tie.Need-count-digits-requires
 count-digits-requires c κs = search fewest-laws

@@ -1,10 +1,10 @@
 -- count_digits: the digits counted and those still to count are one more than all, since both count the first of the rest.
 use Prim.Native.Nat.{_+_, _≤_}
 use mathlib.Core.Path.{_≡_}
 use Rattle.text_write.specs.Digits.{digitCount}
-use Rattle.text_write.proofs.Steps.{count-laws}
-use Rattle.text_write.proofs.count_digits.Statement.{statement}
-use Rattle.text_write.proofs.count_digits.Tie as tie
+use Rattle.text_digits.proofs.Steps.{count-laws}
+use Rattle.text_digits.proofs.count_digits.Statement.{statement}
+use Rattle.text_digits.proofs.count_digits.Tie as tie
 
 abbrev Inv-loop : tie.InvT-loop
 Inv-loop number base left₀ count₀ rest₀ left count rest = (count + left ≤ 64) × (1 + digitCount base 63 number ≡ count + digitCount base left rest)

@@ -1,7 +1,7 @@
 -- put_decimal: the two refusals, then as many digits as were counted.
-use Rattle.text_write.proofs.Steps.{decimal-laws}
-use Rattle.text_write.proofs.put_decimal.Statement.{statement}
-use Rattle.text_write.proofs.put_decimal.Tie as tie
+use Rattle.text_digits.proofs.Steps.{decimal-laws}
+use Rattle.text_digits.proofs.put_decimal.Statement.{statement}
+use Rattle.text_digits.proofs.put_decimal.Tie as tie
 
 count-digits-requires : tie.Need-count-digits-requires
 count-digits-requires c κs = search decimal-laws

@@ -3,10 +3,10 @@ use mathlib.Core.Path.{_≡_, refl}
 use Prim.Native.Nat.{_-_, _≤_}
 use native.Mathlib.Omega.{arith}
 use lib.ListN.{drop}
 use Rattle.vm_opcodes.specs.Operations.{operations, operationIn, firstOperation, bit, operationBit}
 use Rattle.vm_opcodes.proofs.Laws.{shift-most, found, passed, none-left}
-use Rattle.vm_opcodes.proofs.highest_operation.Statement.{statement}
-use Rattle.vm_opcodes.proofs.highest_operation.Tie as tie
+use Rattle.vm_tables.proofs.highest_operation.Statement.{statement}
+use Rattle.vm_tables.proofs.highest_operation.Tie as tie
 
 abbrev Inv-loop : tie.InvT-loop
 Inv-loop word i₀ i = (i ≤ 27) × (operationIn word ≡ firstOperation (λ o. bit (operationBit o) word) (drop i operations))

@@ -2,9 +2,9 @@
 use mathlib.Core.Path.{_∙_}
 use native.Mathlib.Omega.{arith}
 use lib.ListN.{length-set}
-use Rattle.text_write.proofs.Steps.{prefixed-laws}
-use Rattle.text_write.proofs.put_prefixed.Statement.{statement}
-use Rattle.text_write.proofs.put_prefixed.Tie as tie
+use Rattle.text_digits.proofs.Steps.{prefixed-laws}
+use Rattle.text_digits.proofs.put_prefixed.Statement.{statement}
+use Rattle.text_digits.proofs.put_prefixed.Tie as tie
 
 add-size : tie.Need-add-size
 add-size c = search prefixed-laws

@@ -1,8 +1,8 @@
 -- digit_byte: the two ranges of digits.
 use borrow.Author.Tests.{le-ltb, lt-ltb}
 use borrow.Author.Needs.{needs}
-use Rattle.text_write.proofs.digit_byte.Statement.{statement}
-use Rattle.text_write.proofs.digit_byte.Tie as tie
+use Rattle.text_digits.proofs.digit_byte.Statement.{statement}
+use Rattle.text_digits.proofs.digit_byte.Tie as tie
 
 cast-result : tie.Need-cast-result
 cast-result c = search needs

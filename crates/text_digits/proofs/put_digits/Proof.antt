@@ -3,10 +3,10 @@ use Prim.Native.Nat.{_≤_}
 use mathlib.Core.Path.{_≡_}
 use lib.ListN.{length}
 use lib.Seq.{sets}
 use Rattle.text_write.specs.Digits.{digitsOf}
-use Rattle.text_write.proofs.Steps.{digits-laws}
-use Rattle.text_write.proofs.put_digits.Statement.{statement}
-use Rattle.text_write.proofs.put_digits.Tie as tie
+use Rattle.text_digits.proofs.Steps.{digits-laws}
+use Rattle.text_digits.proofs.put_digits.Statement.{statement}
+use Rattle.text_digits.proofs.put_digits.Tie as tie
 
 abbrev Inv-loop : tie.InvT-loop
 Inv-loop text₀ at count number base i₀ rest₀ text i rest = (i ≤ count) × (length text ≡ length text₀) × (sets text₀ at (digitsOf base count number) ≡ sets text at (digitsOf base i rest))

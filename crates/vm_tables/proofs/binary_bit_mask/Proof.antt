@@ -1,8 +1,8 @@
--- `OlaOpcode::binary_bit_mask` meets its contract: a shift of at most 31 loses nothing of the word.
+-- `binary_bit_mask` meets its contract: a shift of at most 31 loses nothing of the word.
 use Rattle.vm_opcodes.proofs.Laws.{mask-is}
 use borrow.Author.Needs.{needs}
-use Rattle.vm_opcodes.proofs.OlaOpcode.binary_bit_mask.Statement.{statement}
-use Rattle.vm_opcodes.proofs.OlaOpcode.binary_bit_mask.Tie as tie
+use Rattle.vm_tables.proofs.binary_bit_mask.Statement.{statement}
+use Rattle.vm_tables.proofs.binary_bit_mask.Tie as tie
 
 binary-bit-shift-requires : tie.Need-binary-bit-shift-requires
 binary-bit-shift-requires c κs = search needs
@@ -14,7 +14,7 @@ shl-result : tie.Need-shl-result
 shl-result c = search needs
 
 returns : tie.Need-returns
-returns c = mask-is (c .before .args .self) _ (c .binary-bit-shift .ensures)
+returns c = mask-is (c .before .args .opcode) _ (c .binary-bit-shift .ensures)
 
 pub binary-bit-mask-spec : {M : Type 1} → statement M
 binary-bit-mask-spec =
