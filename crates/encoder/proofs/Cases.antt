@@ -1,5 +1,5 @@
 -- Inputs that separate likely misreadings of resolution, canonical instructions, refusals 10 to 13 and what is left in the buffers, by
--- computation. Expected values: document 01 and READINGS 2, 3, 9 to 12, tried on the Rust.
+-- computation. Expected values: document 01 and READINGS 2, 3 and 9 to 12.
 use Prim.Native.Nat.{ℕ, _^_}
 use mathlib.Core.Path.{_≡_, refl}
 use mathlib.Core.List.{List, [], _∷_, map}

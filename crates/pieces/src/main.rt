@@ -1,10 +1,8 @@
-// Prints each piece of the rows on standard input with what it reads as: an operation, a register, a special register, a number, or
-// another piece. The largest thing that runs until the printing program does.
+// Prints each piece of the rows on standard input with what it reads as: an operation, a register, a number, or another piece. The largest thing that runs until the printing program does.
 use libc::STDIN_FILENO;
 use libc::STDOUT_FILENO;
 use text_write::Put;
 use vm_hardware::RegisterFound;
-use vm_hardware::SpecialFound;
 use vm_opcodes::OpcodeFound;
 use vm_operands::ImmediateFound;
 use vm_operands::ImmediateValue;
@@ -56,20 +54,6 @@ fn is_register(piece: &[u8]) -> bool {
     }
 }
 
-// Whether the piece is a special register; prints it if so.
-fn is_special(piece: &[u8]) -> bool {
-    let found = vm_registers::special_from_str(piece);
-    match found {
-        SpecialFound::Is(register) => {
-            let mut text = [0u8; 32];
-            let put = vm_registers::put_special(register, &mut text, 0);
-            print_put(b"special ", &text, put);
-            true
-        }
-        SpecialFound::Nothing => false,
-    }
-}
-
 // Whether the piece is a number; prints it if so.
 fn is_number(piece: &[u8]) -> bool {
     let found = ImmediateValue::from_str(piece);
@@ -90,9 +74,6 @@ fn print_piece(piece: &[u8]) {
         return;
     }
     if is_register(piece) {
-        return;
-    }
-    if is_special(piece) {
         return;
     }
     if is_number(piece) {

@@ -19,7 +19,15 @@ encodeDetail (Rejected place) = placeIndex place
 abbrev pub writeNumber : WriteRefusal → ℕ
 writeNumber TextTooShort = 23
 
+abbrev pub writeDetail : WriteRefusal → ℕ
+writeDetail TextTooShort = 0
+
 abbrev pub rowNumber : RowRefusal → ℕ
 rowNumber RowNumberTooLarge = 21
 rowNumber PlaceEmpty = 24
 rowNumber RowTextTooShort = 23
+
+abbrev pub rowDetail : RowRefusal → ℕ
+rowDetail RowNumberTooLarge = 0
+rowDetail PlaceEmpty = 0
+rowDetail RowTextTooShort = 0

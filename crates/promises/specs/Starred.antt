@@ -81,9 +81,9 @@ allSay (c ∷ cs) = says c × allSay cs
 abbrev pub printingSource : List ℕ
 printingSource = bytes "f:\nret\nmain:\nmov r1 -1\ncall f\n.PROPHET0_0:\nend"
 
--- starred in document 01
-abbrev pub starred : List Case
-starred =
+-- the starred cases, then the others of "Numbers" and "Rows and their words"
+abbrev pub cases : List Case
+cases =
     number (bytes "18446744069414584320") (Is (immediate 18446744069414584320))
     ∷ number (bytes "18446744069414584321") Nothing
     ∷ number (bytes "-18446744069414584320") (Is (immediate 1))
@@ -98,22 +98,14 @@ starred =
     ∷ reads (bytes "0x4000000001000000") []
     ∷ reads (bytes "0x0000000600800000") (made RET Empty Empty (RegisterOperand R1) ∷ [])
     ∷ words (bytes "main:") []
-    ∷ []
-
--- and its other cases of numbers and rows
-abbrev pub unstarred : List Case
-unstarred =
-    number (bytes "-0") (Is (immediate 0))
+    -- not starred
+    ∷ number (bytes "-0") (Is (immediate 0))
     ∷ number (bytes "-170141183460469231731687303715884105728") Nothing
     ∷ refusal [] 4 0
     ∷ refusal (bytes "main:\nadd r1 5 r2\ncall g") 10 1
     ∷ refusal (bytes "main:\n\n ; nothing\nend\nload r1") 3 2
     ∷ []
 
-pub starred-hold : allSay starred
+pub cases-hold : allSay cases
 unfolding isSpace isDigit isLetter isWord same scan all parts lines ended _>>=_ _>>_ refuseIf refuseAt digitValue valueFrom numeral unprefixed hexadecimal digitsOf digitCount operations firstOperation registers firstRegister registerOf specialOf signed numberOf placed filledParts linePieces rowPieces shapes firstMatch arranged operandsOf arrangedIf isCallRow isPairRow labelRow rowOf nameAt cutAtCalls scopesThat rowsOfScopes instructions labelRows total holder withoutLastEmpty labelsAfterHead listedLabels hostsFrom isIn keptFrom firstAbove127 readRows rowsRead sortedOf tabled hostsOf programWords grouped linesOfGroups joined general memory canonicalBy canonicalFrom firstMisplaced encodedRows assembled numberedLines printing completeOf firstUnreadable memoryBuilt builtWith onNumber onOperation onFirst allDecoded opened
-starred-hold = (refl, (refl, (refl, (refl, (refl, (refl, (refl, (refl, (refl, (refl, (refl, (refl, (refl, (refl, (tt)))))))))))))))
-
-pub unstarred-hold : allSay unstarred
-unfolding isSpace isDigit isLetter isWord same scan all parts lines ended _>>=_ _>>_ refuseIf refuseAt digitValue valueFrom numeral unprefixed hexadecimal digitsOf digitCount operations firstOperation registers firstRegister registerOf specialOf signed numberOf placed filledParts linePieces rowPieces shapes firstMatch arranged operandsOf arrangedIf isCallRow isPairRow labelRow rowOf nameAt cutAtCalls scopesThat rowsOfScopes instructions labelRows total holder withoutLastEmpty labelsAfterHead listedLabels hostsFrom isIn keptFrom firstAbove127 readRows rowsRead sortedOf tabled hostsOf programWords grouped linesOfGroups joined general memory canonicalBy canonicalFrom firstMisplaced encodedRows assembled numberedLines printing completeOf firstUnreadable memoryBuilt builtWith onNumber onOperation onFirst allDecoded opened
-unstarred-hold = (refl, (refl, (refl, (refl, (refl, (tt))))))
+cases-hold = (refl, (refl, (refl, (refl, (refl, (refl, (refl, (refl, (refl, (refl, (refl, (refl, (refl, (refl, (refl, (refl, (refl, (refl, (refl, (tt))))))))))))))))))))

@@ -1,5 +1,5 @@
 -- Inputs that separate likely misreadings of scopes, label tables, prophets and refusals 1 to 9, by computation. Expected values: document
--- 01 and READINGS 4 to 8, tried on the Rust.
+-- 01 and READINGS 4 to 8.
 use Prim.Native.Nat.{ℕ, _<_}
 use mathlib.Core.Path.{_≡_, refl, sym, ap, _∙_}
 use mathlib.Core.List.{List, [], _∷_, map}
