@@ -65,9 +65,9 @@ pub sorted-source : (s : List ℕ) (rows : List AsmRow) → sortedOf s ≡ ok ro
 unfolding sortedOf
 sorted-source s rows h =
     let a = ok-bind (rowsRead s) _ rows h in
-    let b = if-passed (isEmpty (a .0)) 4 _ rows (a .2) in
-    let c = if-passed (eqb (mainCount s (a .0)) 0) 5 _ rows (b .1) in
-    let d = if-passed (ltb 1 (mainCount s (a .0))) 6 _ rows (c .1) in
+    let b = if-passed _ _ _ rows (a .2) in
+    let c = if-passed _ _ _ rows (b .1) in
+    let d = if-passed _ _ _ rows (c .1) in
     let w = read-source s (a .0) (a .1) in
     record { short = w .0; written = a .0; read = w .1; ordered = ok-same (d .1) }
 
