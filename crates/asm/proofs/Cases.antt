@@ -13,7 +13,7 @@ use Rattle.vm_hardware.specs.Registers.{registers, registerOf, specialOf}
 use Rattle.vm_hardware.specs.declared.OlaRegister.the-variants.{R0, R1, R2, R3, R9}
 use Rattle.vm_hardware.specs.declared.OlaSpecialRegister.the-variants.{PC, PSP}
 use Rattle.vm_operands.specs.Numbers.{immediate, signed, numberOf}
-use Rattle.asm.specs.Parts.{Part, placed, filledParts, linePieces, rowPieces, sourcePieces}
+use Rattle.asm.specs.Parts.{Part, placed, filledParts, piecesFrom, linePieces, rowPieces, sourcePieces}
 use Rattle.asm.specs.Operands.{shapes, firstMatch, operandOf}
 use Rattle.asm.specs.Rows.{arranged, operandsOf, arrangedIf, isCallRow, isPairRow, labelRow, rowOf, instruction, countedLength}
 use Rattle.asm.specs.declared.OlaAsmOperand.{OlaAsmOperand}
@@ -157,9 +157,9 @@ unfolding isDigit isLetter isWord same scan all digitValue valueFrom numeral reg
 operands-right = refl
 
 rows-right : map (λ c. rowsOf (c .0)) rowCases ≡ map (λ c. c .1) rowCases
-unfolding isSpace isDigit isLetter isWord same scan all parts digitValue valueFrom numeral operations firstOperation registers registerOf specialOf signed numberOf placed filledParts linePieces rowPieces shapes firstMatch arranged operandsOf arrangedIf isCallRow isPairRow labelRow rowOf
+unfolding isSpace isDigit isLetter isWord same scan all parts digitValue valueFrom numeral operations firstOperation registers registerOf specialOf signed numberOf placed filledParts piecesFrom linePieces rowPieces shapes firstMatch arranged operandsOf arrangedIf isCallRow isPairRow labelRow rowOf
 rows-right = refl
 
 lengths-right : map (λ c. lengthOf (rowsOf (c .0))) lengthCases ≡ map (λ c. c .1) lengthCases
-unfolding isSpace isDigit isLetter isWord same scan all parts digitValue valueFrom numeral operations firstOperation registers registerOf specialOf signed numberOf placed filledParts linePieces rowPieces shapes firstMatch arranged operandsOf arrangedIf isCallRow isPairRow labelRow rowOf
+unfolding isSpace isDigit isLetter isWord same scan all parts digitValue valueFrom numeral operations firstOperation registers registerOf specialOf signed numberOf placed filledParts piecesFrom linePieces rowPieces shapes firstMatch arranged operandsOf arrangedIf isCallRow isPairRow labelRow rowOf
 lengths-right = refl

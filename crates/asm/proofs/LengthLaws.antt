@@ -25,7 +25,7 @@ use Rattle.vm_opcodes.specs.declared.RowPlaces.the-variants.{DstOp0Op1, DstOp1,
 use Rattle.vm_opcodes.proofs.Laws.{every-operation}
 use Rattle.vm_mnemonics.specs.Mnemonics.{mnemonic, operationOf}
 use Rattle.vm_hardware.specs.Registers.{registerOf, specialOf}
-use Rattle.asm.specs.Parts.{Part, placed, filledParts, withoutComment, linePieces, rowPieces, sourcePieces}
+use Rattle.asm.specs.Parts.{Part, placed, filledParts, withoutComment, piecesFrom, linePieces, rowPieces, sourcePieces}
 use Rattle.asm.specs.Operands.{shapes, firstMatch, operandOf}
 use Rattle.asm.specs.Rows.{arranged, arrangedIf, oneMore, operandsOf, labelRow, isCallRow, isPairRow, orElseRow, rowOf}
 use Rattle.asm.specs.declared.OlaAsmOperand.{OlaAsmOperand}
@@ -64,8 +64,8 @@ filled-bytes (q ∷ qs) = go (isEmpty (q .text)) (filled-bytes qs)
     go false h = omega arith
 
 -- a line's pieces take no more than the line and its ending
-line-bytes : (q : Part) → rowBytes (linePieces q) ≤ pieceBytes q
-unfolding linePieces
+pub line-bytes : (q : Part) → rowBytes (linePieces q) ≤ pieceBytes q
+unfolding piecesFrom linePieces
 line-bytes q =
     let l : List ℕ = withoutComment (q .text) in
     let a = filled-bytes (placed (q .start) (parts isSpace l)) in

@@ -1,3 +1,4 @@
 pub mod Parts
 pub mod Operands
 pub mod Rows
+pub mod Survey

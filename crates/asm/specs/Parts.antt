@@ -1,12 +1,12 @@
 -- A source in lines and their pieces, each with its place in the source.
 use Prim.Native.Nat.{ℕ, _+_}
 use mathlib.Core.List.{List, [], _∷_}
-use mathlib.Core.Bool.{Bool, cond, not}
-use lib.Dec.{eqb}
-use lib.ListN.{length, take}
+use mathlib.Core.Bool.{cond, not}
+use lib.Dec.{eqb, leb}
+use lib.ListN.{length, take, drop}
 use Rattle.text.specs.Bytes.{isSpace}
 use Rattle.text.specs.Scan.{scan, parts, isEmpty}
-use Rattle.text.specs.Lines.{isFeed}
+use Rattle.text.specs.Lines.{isFeed, notFeed, lineNext}
 
 -- a part of the source: where it starts, and its bytes
 pub record Part : Type 0 where
@@ -27,15 +27,35 @@ filledParts (q ∷ qs) = cond (isEmpty (q .text)) (filledParts qs) (q ∷ filled
 abbrev pub withoutComment : List ℕ → List ℕ
 withoutComment l = take (scan (λ b. not (eqb b 59)) l) l
 
--- "Whitespace ... parts the pieces": a line's pieces, each with its place in the source
+-- "Whitespace ... parts the pieces": the pieces of a text that starts at place i
+unfoldable pub piecesFrom : ℕ → List ℕ → List Part
+piecesFrom i l = filledParts (placed i (parts isSpace l))
+
+-- a line's pieces, each with its place in the source
 unfoldable pub linePieces : Part → List Part
-linePieces q = filledParts (placed (q .start) (parts isSpace (withoutComment (q .text))))
+linePieces q = piecesFrom (q .start) (withoutComment (q .text))
 
 -- "then outer whitespace; an empty one is no row": the pieces of each line that has one
 unfoldable pub rowPieces : List Part → List (List Part)
 rowPieces [] = []
 rowPieces (q ∷ qs) = let ps = linePieces q in cond (isEmpty ps) (rowPieces qs) (ps ∷ rowPieces qs)
 
+-- the pieces of each row of what stands in a text from place i on, which is the start of a line
+abbrev pub piecesAfter : List ℕ → ℕ → List (List Part)
+piecesAfter s i = rowPieces (placed i (parts isFeed (drop i s)))
+
 -- the pieces of each row of a source
 abbrev pub sourcePieces : List ℕ → List (List Part)
-sourcePieces s = rowPieces (placed 0 (parts isFeed s))
+sourcePieces s = piecesAfter s 0
+
+-- the line of a text that starts at place i
+abbrev pub lineAt : List ℕ → ℕ → Part
+lineAt s i = record { start = i; text = take (scan notFeed (drop i s)) (drop i s) }
+
+-- where the line after it starts, the text's end where there is none
+abbrev pub nextLine : List ℕ → ℕ → ℕ
+nextLine s i = i + lineNext (drop i s)
+
+-- "The name itself is handed back as that part of the source, an empty part where the entry reaches past the source's end"
+unfoldable pub nameAt : List ℕ → ℕ → ℕ → List ℕ
+nameAt s start n = cond (leb (start + n) (length s)) (take n (drop start s)) []

@@ -1,13 +1,14 @@
 -- Rows: label rows, and instruction rows with "Operand counts and places ... those of `split_ola_asm_pieces`".
-use Prim.Native.Nat.{ℕ, _+_, _-_}
+use Prim.Native.Nat.{ℕ, suc, _+_, _-_}
 use mathlib.Core.List.{List, [], _∷_}
-use mathlib.Core.Bool.{Bool, true, false, _&&_, _||_, cond}
+use mathlib.Core.Bool.{Bool, _&&_, _||_, cond}
 use mathlib.Core.Option.{Option, none, some}
 use lib.Dec.{ltb}
 use lib.ListN.{length, drop}
 use lib.Seq.{slice}
 use Rattle.text.specs.Bytes.{bytes, isDigit, isWord, same}
-use Rattle.text.specs.Scan.{scan, isEmpty}
+use Rattle.text.specs.Scan.{scan}
+use Rattle.text.specs.Answer.{Answer, ok, refused, _>>=_}
 use Rattle.vm_opcodes.specs.Operations.{rowPlaces}
 use Rattle.vm_opcodes.specs.declared.OlaOpcode.{OlaOpcode}
 use Rattle.vm_opcodes.specs.declared.OpcodeFound.{OpcodeFound}
@@ -15,7 +16,7 @@ use Rattle.vm_opcodes.specs.declared.OpcodeFound.the-variants.{Is as IsOpcode, 
 use Rattle.vm_opcodes.specs.declared.RowPlaces.{RowPlaces}
 use Rattle.vm_opcodes.specs.declared.RowPlaces.the-variants.{DstOp0Op1, DstOp1, DstMemory, MemoryDst, Op0Op1, Op1, Bare}
 use Rattle.vm_mnemonics.specs.Mnemonics.{operationOf}
-use Rattle.asm.specs.Parts.{Part, sourcePieces}
+use Rattle.asm.specs.Parts.{Part, linePieces, lineAt, nextLine}
 use Rattle.asm.specs.Operands.{byteIs, isPair, operandOf}
 use Rattle.asm.specs.declared.OlaAsmOperand.{OlaAsmOperand}
 use Rattle.asm.specs.declared.OlaAsmOperand.the-variants.{Empty, ImmediateOperand, RegisterOperand, RegisterWithOffset, RegisterWithFactoredRegOffset, SpecialReg, Label, Identifier}
@@ -26,6 +27,9 @@ use Rattle.asm.specs.declared.AsmRow.{AsmRow}
 use Rattle.asm.specs.declared.AsmRow.the-variants.{Instruction, LabelCall, LabelJmp, LabelProphet}
 use Rattle.asm.specs.declared.RowRead.{RowRead}
 use Rattle.asm.specs.declared.RowRead.the-variants.{Is, Unreadable}
+use Rattle.asm.specs.declared.RowAt.{RowAt}
+use Rattle.asm.specs.declared.LineRead.{LineRead}
+use Rattle.asm.specs.declared.LineRead.the-variants.{Blank, Row, Unreadable as NoRow}
 
 -- ---- instruction rows
 
@@ -109,6 +113,39 @@ unfoldable pub rowOf : List Part → RowRead
 rowOf [] = Unreadable
 rowOf (q ∷ []) = orElseRow (labelRow q) (arrangedIf (operationOf (q .text)) (some []))
 rowOf (q ∷ r ∷ rs) = arrangedIf (operationOf (q .text)) (operandsOf (r ∷ rs))
+
+abbrev pub ofRow : RowRead → LineRead
+ofRow (Is r) = Row r
+ofRow Unreadable = NoRow
+
+-- what a line is: no row where it has no piece
+abbrev pub lineOf : List Part → LineRead
+lineOf [] = Blank
+lineOf (q ∷ qs) = ofRow (rowOf (q ∷ qs))
+
+-- the line of a text that starts at place i, and where the line after it starts
+abbrev pub rowAt : List ℕ → ℕ → RowAt
+rowAt s i = record { read = lineOf (linePieces (lineAt s i)); next = nextLine s i }
+
+-- ---- the rows of a text
+
+-- 3: "an unreadable row (non-empty rows before it)"
+abbrev pub rowRead : ℕ → RowRead → Answer AsmRow
+rowRead k (Is r) = ok r
+rowRead k Unreadable = refused 3 k
+
+-- every row, where k rows stand ahead
+unfoldable pub readRows : ℕ → List (List Part) → Answer (List AsmRow)
+readRows k [] = ok []
+readRows k (ps ∷ rest) = rowRead k (rowOf ps) >>= λ r. readRows (suc k) rest >>= λ rs. ok (r ∷ rs)
+
+-- the instruction rows, in order
+unfoldable pub instructions : List AsmRow → List OlaAsmInstruction
+instructions [] = []
+instructions (Instruction i ∷ rs) = i ∷ instructions rs
+instructions (LabelCall start n ∷ rs) = instructions rs
+instructions (LabelJmp start n ∷ rs) = instructions rs
+instructions (LabelProphet start n ∷ rs) = instructions rs
 
 -- ---- lengths
 

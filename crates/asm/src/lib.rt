@@ -67,6 +67,45 @@ pub enum RowRead {
     Unreadable,
 }
 
+// What reading a line finds: no row where it has no piece.
+pub enum LineRead {
+    Blank,
+    Row(AsmRow),
+    Unreadable,
+}
+
+// A line that was read, and where the line after it starts.
+pub struct RowAt {
+    pub read: LineRead,
+    pub next: usize,
+}
+
+// Where something stands in a text, or that it stands nowhere.
+pub enum PlaceFound {
+    At(usize),
+    Nothing,
+}
+
+// What the rows of a text add up to: how many, how many of them are label rows, instruction rows and call labels `main`; the counted length
+// and the words of the instructions; where the first call label starts, where main's scope begins, and the call label that ends it.
+pub struct Tally {
+    pub rows: usize,
+    pub labels: usize,
+    pub instructions: usize,
+    pub mains: usize,
+    pub counted: usize,
+    pub words: usize,
+    pub call: PlaceFound,
+    pub main: PlaceFound,
+    pub end: PlaceFound,
+}
+
+// What a survey of a text finds: its sums, or an unreadable row, with the non-empty rows before it.
+pub enum Surveyed {
+    Is(Tally),
+    Unreadable(RowCount),
+}
+
 impl RowCount {
     pub fn new(rows: usize) -> Self
         ensures { λ r. ⌜ r ≡ record { 0 = rows } ⌝ }

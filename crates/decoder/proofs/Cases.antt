@@ -22,7 +22,10 @@ use Rattle.program.specs.Groups.{grouped}
 use Rattle.program.specs.declared.BinaryInstruction.{BinaryInstruction}
 use Rattle.decoder.specs.Lines.{completeOf, firstUnreadable}
 use Rattle.decoder.specs.Decode.{memoryBuilt, builtWith, onNumber, onOperation, onFirst}
-use Rattle.decoder.specs.Open.{Read, allDecoded, opened, firstRead, next, run}
+use Rattle.decoder.specs.Open.{Read, nextNumber, nextDetail, allDecoded, opened, firstRead, next, run}
+use Rattle.decoder.specs.declared.OpenRefusal.the-variants.{TextTooLong, FirstWordUnreadable, NoOperation, LineTooMany, SecondLineUnreadable, RegisterMissing}
+use Rattle.decoder.specs.declared.NextRefusal.{NextRefusal}
+use Rattle.decoder.specs.declared.NextRefusal.the-variants.{Open, NoneLeft}
 
 abbrev ret : BinaryInstruction
 ret = made RET Empty Empty Empty
@@ -128,6 +131,21 @@ runCases =
     ∷ (3, bytes "0x800000\nx\n0x800000", ok ret ∷ refused 15 0 ∷ refused 15 0 ∷ [])
     ∷ []
 
+-- every refusal by its number and detail
+abbrev nextRefused : NextRefusal → Answer Read
+nextRefused refusal = refused (nextNumber refusal) (nextDetail refusal)
+
+abbrev refusalCases : List (Answer Read × Answer Read)
+refusalCases =
+    (nextRefused (Open TextTooLong), refused 14 0)
+    ∷ (nextRefused (Open (FirstWordUnreadable 2)), refused 15 2)
+    ∷ (nextRefused (Open (NoOperation 3)), refused 16 3)
+    ∷ (nextRefused (Open (LineTooMany 4)), refused 17 4)
+    ∷ (nextRefused (Open (SecondLineUnreadable 5)), refused 18 5)
+    ∷ (nextRefused (Open (RegisterMissing 6)), refused 19 6)
+    ∷ (nextRefused NoneLeft, refused 20 0)
+    ∷ []
+
 opens-right : map (λ c. opened (c .0)) openCases ≡ map (λ c. c .1) openCases
 unfolding isDigit scan all parts lines ended _>>=_ _>>_ refuseIf refuseAt digitValue valueFrom numeral unprefixed hexadecimal operations firstOperation registers firstRegister signed numberOf grouped completeOf firstUnreadable memoryBuilt builtWith onNumber onOperation onFirst allDecoded opened firstRead next run
 opens-right = refl
@@ -139,6 +157,9 @@ nexts-right = refl
 runs-right : map (λ c. run (c .0) (c .1) 0) runCases ≡ map (λ c. c .2) runCases
 unfolding isDigit scan all parts lines ended _>>=_ _>>_ refuseIf refuseAt digitValue valueFrom numeral unprefixed hexadecimal operations firstOperation registers firstRegister signed numberOf grouped completeOf firstUnreadable memoryBuilt builtWith onNumber onOperation onFirst allDecoded opened firstRead next run
 runs-right = refl
+
+refusals-right : map (λ c. c .0) refusalCases ≡ map (λ c. c .1) refusalCases
+refusals-right = refl
 
 -- 14 stands before everything else, whatever the line is
 too-long : (text : List ℕ) → 524288 < length text → opened text ≡ refused 14 0

@@ -13,12 +13,13 @@ use Rattle.vm_operands.specs.Numbers.{order}
 use Rattle.vm_operands.specs.declared.ImmediateValue.{ImmediateValue}
 use Rattle.vm_operands.specs.declared.OlaOperand.{OlaOperand}
 use Rattle.vm_operands.specs.declared.OlaOperand.the-variants.{ImmediateOperand as ANumber}
+use Rattle.asm.specs.Rows.{instructions}
 use Rattle.asm.specs.declared.OlaAsmOperand.{OlaAsmOperand}
 use Rattle.asm.specs.declared.OlaAsmOperand.the-variants.{Empty, ImmediateOperand, RegisterOperand, RegisterWithOffset, RegisterWithFactoredRegOffset, SpecialReg, Label, Identifier}
 use Rattle.asm.specs.declared.OlaAsmInstruction.{OlaAsmInstruction}
 use Rattle.asm.specs.declared.AsmRow.{AsmRow}
 use Rattle.asm.proofs.NumberLaws.{OperandBelow, OperandsBelow}
-use Rattle.relocate.specs.Labels.{LabelRow, callKind, jmpKind, instructions, addressOf}
+use Rattle.relocate.specs.Labels.{LabelRow, callKind, jmpKind, addressOf}
 use Rattle.relocate.specs.Relocate.{sortedOf, tabled, hostsOf}
 use Rattle.program.specs.Instructions.{made, aNumber, isNumber, carried, isMemory}
 use Rattle.program.specs.Words.{programWords}

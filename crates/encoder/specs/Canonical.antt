@@ -10,12 +10,13 @@ use Rattle.vm_opcodes.specs.declared.RowPlaces.{RowPlaces}
 use Rattle.vm_opcodes.specs.declared.RowPlaces.the-variants.{DstOp0Op1, DstOp1, DstMemory, MemoryDst, Op0Op1, Op1, Bare}
 use Rattle.vm_operands.specs.declared.OlaOperand.{OlaOperand}
 use Rattle.vm_operands.specs.declared.OlaOperand.the-variants.{Empty as NoContent, ImmediateOperand as ANumber, RegisterOperand as ARegister, RegisterWithFactor as AFactor}
+use Rattle.asm.specs.Rows.{instructions}
+use Rattle.asm.specs.Parts.{nameAt}
 use Rattle.asm.specs.declared.OlaAsmOperand.{OlaAsmOperand}
 use Rattle.asm.specs.declared.OlaAsmOperand.the-variants.{Empty, ImmediateOperand, RegisterOperand, RegisterWithOffset, RegisterWithFactoredRegOffset, SpecialReg, Label, Identifier}
 use Rattle.asm.specs.declared.OlaAsmInstruction.{OlaAsmInstruction}
 use Rattle.asm.specs.declared.AsmRow.{AsmRow}
-use Rattle.relocate.specs.Scopes.{nameAt}
-use Rattle.relocate.specs.Labels.{LabelRow, callKind, jmpKind, instructions, labelRows, addressOf, holder}
+use Rattle.relocate.specs.Labels.{LabelRow, callKind, jmpKind, labelRows, addressOf, holder}
 use Rattle.program.specs.Instructions.{made, aNumber, isNumber}
 use Rattle.program.specs.declared.BinaryInstruction.{BinaryInstruction}
 

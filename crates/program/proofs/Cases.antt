@@ -1,22 +1,30 @@
--- Inputs that separate likely misreadings of words, bytecode text, listing rows and refusals 21 to 24, by computation. Expected values:
+-- Inputs that separate likely misreadings of words, bytecode text, listing rows, lent texts and refusals 21 to 24, by computation. Expected values:
 -- document 01, READINGS 23 to 25, and `encode` and `get_asm_form_code` of core/src/program/binary_program.rs.
 use Prim.Native.Nat.{ℕ, _^_}
 use mathlib.Core.Path.{_≡_, refl}
 use mathlib.Core.List.{List, [], _∷_, map}
 use Rattle.text.specs.Bytes.{bytes}
-use Rattle.text.specs.Answer.{Answer, ok, refused, _>>=_, _>>_, refuseIf, refuseAt}
+use Rattle.text.specs.Answer.{Answer, ok, refused, _>>=_, _>>_, refuseIf, refuseAt, onOk}
 use Rattle.text_write.specs.Digits.{digitsOf, digitCount}
 use Rattle.vm_opcodes.specs.declared.OlaOpcode.the-variants.{ADD, MUL, MOV, JMP, CJMP, RET, MLOAD, MSTORE, END, RC, ASSERT, NOT, TLOAD, TSTORE, SCCALL, EVENT}
 use Rattle.vm_hardware.specs.declared.OlaRegister.the-variants.{R0, R1, R2, R3, R9}
 use Rattle.vm_hardware.specs.declared.OlaSpecialRegister.the-variants.{PC, PSP}
+use Rattle.vm_hardware.specs.declared.Place.the-variants.{Op0, Op1, Dst}
 use Rattle.vm_operands.specs.Numbers.{order, immediate}
 use Rattle.vm_operands.specs.declared.OlaOperand.{OlaOperand}
 use Rattle.vm_operands.specs.declared.OlaOperand.the-variants.{Empty, RegisterOperand, RegisterWithOffset, RegisterWithFactor, SpecialReg}
 use Rattle.program.specs.Instructions.{made, aNumber}
 use Rattle.program.specs.Words.{encoded}
 use Rattle.program.specs.Groups.{grouped}
-use Rattle.program.specs.Bytecode.{bytecodeOf, bytecodeWritten, within, linesOfGroups, joined}
+use Rattle.program.specs.Bytecode.{bytecodeOf, bytecodeWritten, within, linesOfGroups, joined, textLeft}
 use Rattle.program.specs.Listing.{memoryText, spaced, placesText, rowText, rowWritten}
+use Rattle.program.specs.Refusals.{encodeNumber, encodeDetail, writeNumber, writeDetail, rowNumber, rowDetail}
+use Rattle.program.specs.declared.EncodeRefusal.{EncodeRefusal}
+use Rattle.program.specs.declared.EncodeRefusal.the-variants.{NumberTooLarge, Rejected}
+use Rattle.program.specs.declared.WriteRefusal.{WriteRefusal}
+use Rattle.program.specs.declared.WriteRefusal.the-variants.{TextTooShort}
+use Rattle.program.specs.declared.RowRefusal.{RowRefusal}
+use Rattle.program.specs.declared.RowRefusal.the-variants.{NumberTooLarge as RowNumberTooLarge, PlaceEmpty, TextTooShort as RowTextTooShort}
 use Rattle.program.specs.declared.BinaryInstruction.{BinaryInstruction}
 use Rattle.program.specs.declared.SecondWord.the-variants.{Number, Nothing}
 use Rattle.program.specs.declared.InstructionWords.{InstructionWords}
@@ -113,6 +121,40 @@ roomCases =
     ∷ (bytecodeWritten [] 0, ok [])
     ∷ []
 
+-- every refusal by its number and detail
+abbrev encodeRefused : EncodeRefusal → Answer (List ℕ)
+encodeRefused refusal = refused (encodeNumber refusal) (encodeDetail refusal)
+
+abbrev writeRefused : WriteRefusal → Answer (List ℕ)
+writeRefused refusal = refused (writeNumber refusal) (writeDetail refusal)
+
+abbrev rowRefused : RowRefusal → Answer (List ℕ)
+rowRefused refusal = refused (rowNumber refusal) (rowDetail refusal)
+
+abbrev refusalCases : List (Answer (List ℕ) × Answer (List ℕ))
+refusalCases =
+    (encodeRefused NumberTooLarge, refused 21 0)
+    ∷ (encodeRefused (Rejected Op0), refused 22 0)
+    ∷ (encodeRefused (Rejected Op1), refused 22 1)
+    ∷ (encodeRefused (Rejected Dst), refused 22 2)
+    ∷ (writeRefused TextTooShort, refused 23 0)
+    ∷ (rowRefused RowNumberTooLarge, refused 21 0)
+    ∷ (rowRefused PlaceEmpty, refused 24 0)
+    ∷ (rowRefused RowTextTooShort, refused 23 0)
+    ∷ []
+
+-- a lent text afterwards: written over from its start with the rest untouched, or untouched where it was refused
+abbrev textCases : List (List ℕ × List ℕ)
+textCases =
+    (textLeft (rowWritten (made RET Empty Empty Empty) 5) (bytes "abcde"), bytes "retde")
+    ∷ (textLeft (rowWritten (made RET Empty Empty Empty) 3) (bytes "abc"), bytes "ret")
+    ∷ (textLeft (rowWritten (made RET Empty Empty Empty) 2) (bytes "ab"), bytes "ab")
+    ∷ (textLeft (rowWritten (made ADD Empty Empty Empty) 5) (bytes "abcde"), bytes "abcde")
+    ∷ (textLeft (bytecodeWritten (2 ^ 23 ∷ []) 20) (bytes "abcdefghijklmnopqrst"), bytes "0x0000000000800000st")
+    ∷ (textLeft (bytecodeWritten (2 ^ 23 ∷ []) 17) (bytes "abcdefghijklmnopq"), bytes "abcdefghijklmnopq")
+    ∷ (textLeft (bytecodeWritten [] 3) (bytes "abc"), bytes "abc")
+    ∷ []
+
 encodes-right : map (λ c. encoded (c .0)) encodeCases ≡ map (λ c. c .1) encodeCases
 unfolding encoded _>>=_ _>>_ refuseIf refuseAt
 encodes-right = refl
@@ -128,3 +170,10 @@ rows-right = refl
 rooms-right : map (λ c. c .0) roomCases ≡ map (λ c. c .1) roomCases
 unfolding digitsOf digitCount memoryText spaced placesText rowText rowWritten within grouped linesOfGroups joined _>>=_ _>>_ refuseIf
 rooms-right = refl
+
+refusals-right : map (λ c. c .0) refusalCases ≡ map (λ c. c .1) refusalCases
+refusals-right = refl
+
+texts-right : map (λ c. c .0) textCases ≡ map (λ c. c .1) textCases
+unfolding digitsOf digitCount memoryText spaced placesText rowText rowWritten within grouped linesOfGroups joined _>>=_ _>>_ refuseIf onOk
+texts-right = refl

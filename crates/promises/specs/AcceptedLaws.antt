@@ -7,10 +7,10 @@ use lib.ListN.{length}
 use Rattle.text.specs.Lists.{total}
 use Rattle.text.specs.Answer.{ok}
 use Rattle.text.proofs.All.{All}
+use Rattle.asm.specs.Rows.{instructions}
 use Rattle.asm.specs.declared.AsmRow.{AsmRow}
 use Rattle.asm.proofs.NumberLaws.{OperandsBelow, numbers-below}
 use Rattle.asm.proofs.ShapeLaws.{MemoryShaped, memory-shaped}
-use Rattle.relocate.specs.Labels.{instructions}
 use Rattle.relocate.specs.Relocate.{sortedOf}
 use Rattle.relocate.proofs.LengthLaws.{address-below, sorted-instructions}
 use Rattle.program.specs.Words.{programWords, emittedLength}

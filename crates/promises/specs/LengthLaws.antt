@@ -16,12 +16,12 @@ use Rattle.vm_opcodes.specs.declared.OlaOpcode.{OlaOpcode}
 use Rattle.vm_opcodes.specs.declared.RowPlaces.{RowPlaces}
 use Rattle.vm_opcodes.specs.declared.RowPlaces.the-variants.{Bare}
 use Rattle.vm_operands.specs.declared.OlaOperand.the-variants.{Empty as NoContent}
+use Rattle.asm.specs.Rows.{instructions}
 use Rattle.asm.specs.declared.OlaAsmOperand.the-variants.{Empty}
 use Rattle.asm.specs.declared.OlaAsmInstruction.{OlaAsmInstruction}
 use Rattle.asm.specs.declared.AsmRow.{AsmRow}
 use Rattle.vm_opcodes.proofs.Laws.{every-operation}
 use Rattle.asm.proofs.LengthLaws.{leastBytes, least-four, least-six, isBare, is-bare, BareIsEmpty}
-use Rattle.relocate.specs.Labels.{instructions}
 use Rattle.relocate.proofs.LengthLaws.{sorted-length, sorted-bytes, sorted-bare}
 use Rattle.program.specs.Instructions.{isNumber, isMemory}
 use Rattle.program.specs.Words.{programWords, emittedLength}

@@ -14,13 +14,13 @@ use Rattle.vm_opcodes.specs.declared.OlaOpcode.{OlaOpcode}
 use Rattle.vm_hardware.specs.declared.Place.{Place}
 use Rattle.vm_hardware.specs.declared.Place.the-variants.{Op0, Op1, Dst}
 use Rattle.vm_operands.specs.declared.OlaOperand.{OlaOperand}
-use Rattle.asm.specs.Rows.{counted, countedLength}
+use Rattle.asm.specs.Rows.{counted, countedLength, instructions}
 use Rattle.asm.specs.declared.OlaAsmOperand.{OlaAsmOperand}
 use Rattle.asm.specs.declared.OlaAsmOperand.the-variants.{Empty, ImmediateOperand, RegisterOperand, RegisterWithOffset, RegisterWithFactoredRegOffset, SpecialReg, Label, Identifier}
 use Rattle.asm.specs.declared.OlaAsmInstruction.{OlaAsmInstruction}
 use Rattle.asm.specs.declared.AsmRow.{AsmRow}
 use Rattle.asm.proofs.ShapeLaws.{MemoryShaped}
-use Rattle.relocate.specs.Labels.{LabelRow, callKind, jmpKind, instructions, addressOf}
+use Rattle.relocate.specs.Labels.{LabelRow, callKind, jmpKind, addressOf}
 use Rattle.program.specs.Instructions.{aNumber, isNumber, isMemory}
 use Rattle.program.specs.Words.{emittedLength, wordsBefore}
 use Rattle.program.specs.declared.BinaryInstruction.{BinaryInstruction}

@@ -8,10 +8,11 @@ use lib.ListN.{getElem?}
 use Rattle.text.specs.Answer.{ok}
 use Rattle.text.proofs.AnswerLaws.{ok-same}
 use Rattle.vm_hardware.specs.declared.Place.{Place}
+use Rattle.asm.specs.Rows.{instructions}
 use Rattle.asm.specs.declared.OlaAsmOperand.the-variants.{Label, Identifier}
 use Rattle.asm.specs.declared.OlaAsmInstruction.{OlaAsmInstruction}
 use Rattle.asm.specs.declared.AsmRow.{AsmRow}
-use Rattle.relocate.specs.Labels.{callKind, jmpKind, instructions}
+use Rattle.relocate.specs.Labels.{callKind, jmpKind}
 use Rattle.relocate.specs.Relocate.{sortedOf}
 use Rattle.program.specs.declared.BinaryInstruction.{BinaryInstruction}
 use Rattle.encoder.specs.Canonical.{namesOf, canonicalProgram}

@@ -10,10 +10,11 @@ use mathlib.Core.Option.{some}
 use lib.ListN.{length, take, replicate, getElem?}
 use Rattle.text.specs.Answer.{Answer, ok, refused}
 use Rattle.vm_hardware.specs.declared.Place.{Place}
+use Rattle.asm.specs.Rows.{instructions}
 use Rattle.asm.specs.declared.OlaAsmOperand.the-variants.{Label, Identifier}
 use Rattle.asm.specs.declared.OlaAsmInstruction.{OlaAsmInstruction}
 use Rattle.asm.specs.declared.AsmRow.{AsmRow}
-use Rattle.relocate.specs.Labels.{LabelRow, callKind, jmpKind, instructions}
+use Rattle.relocate.specs.Labels.{LabelRow, callKind, jmpKind}
 use Rattle.relocate.specs.Relocate.{sortedOf}
 use Rattle.program.specs.Instructions.{aNumber}
 use Rattle.program.specs.Words.{programWords, wordsBefore}

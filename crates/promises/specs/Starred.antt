@@ -18,13 +18,13 @@ use Rattle.vm_operands.specs.Numbers.{immediate, signed, numberOf}
 use Rattle.vm_operands.specs.declared.ImmediateFound.{ImmediateFound}
 use Rattle.vm_operands.specs.declared.ImmediateFound.the-variants.{Is, Nothing}
 use Rattle.vm_operands.specs.declared.OlaOperand.the-variants.{Empty, RegisterOperand}
-use Rattle.asm.specs.Parts.{placed, filledParts, linePieces, rowPieces}
+use Rattle.asm.specs.Parts.{placed, filledParts, piecesFrom, linePieces, rowPieces, nameAt}
 use Rattle.asm.specs.Operands.{shapes, firstMatch}
-use Rattle.asm.specs.Rows.{arranged, operandsOf, arrangedIf, isCallRow, isPairRow, labelRow, rowOf}
-use Rattle.relocate.specs.Scopes.{nameAt, cutAtCalls, scopesThat, rowsOfScopes}
-use Rattle.relocate.specs.Labels.{instructions, labelRows, holder}
+use Rattle.asm.specs.Rows.{arranged, operandsOf, arrangedIf, isCallRow, isPairRow, labelRow, rowOf, instructions, readRows}
+use Rattle.relocate.specs.Scopes.{cutAtCalls, scopesThat, rowsOfScopes}
+use Rattle.relocate.specs.Labels.{labelRows, holder}
 use Rattle.relocate.specs.Prophets.{withoutLastEmpty, labelsAfterHead, listedLabels, hostsFrom, isIn, keptFrom}
-use Rattle.relocate.specs.Relocate.{firstAbove127, readRows, rowsRead, sortedOf, tabled, hostsOf}
+use Rattle.relocate.specs.Relocate.{firstAbove127, rowsRead, sortedOf, tabled, hostsOf}
 use Rattle.program.specs.Instructions.{made, aNumber}
 use Rattle.program.specs.Words.{programWords}
 use Rattle.program.specs.Groups.{grouped}
@@ -107,5 +107,5 @@ cases =
     ∷ []
 
 pub cases-hold : allSay cases
-unfolding isSpace isDigit isLetter isWord same scan all parts lines ended _>>=_ _>>_ refuseIf refuseAt digitValue valueFrom numeral unprefixed hexadecimal digitsOf digitCount operations firstOperation registers firstRegister registerOf specialOf signed numberOf placed filledParts linePieces rowPieces shapes firstMatch arranged operandsOf arrangedIf isCallRow isPairRow labelRow rowOf nameAt cutAtCalls scopesThat rowsOfScopes instructions labelRows total holder withoutLastEmpty labelsAfterHead listedLabels hostsFrom isIn keptFrom firstAbove127 readRows rowsRead sortedOf tabled hostsOf programWords grouped linesOfGroups joined general memory canonicalBy canonicalFrom firstMisplaced encodedRows assembled numberedLines printing completeOf firstUnreadable memoryBuilt builtWith onNumber onOperation onFirst allDecoded opened
+unfolding isSpace isDigit isLetter isWord same scan all parts lines ended _>>=_ _>>_ refuseIf refuseAt digitValue valueFrom numeral unprefixed hexadecimal digitsOf digitCount operations firstOperation registers firstRegister registerOf specialOf signed numberOf placed filledParts piecesFrom linePieces rowPieces shapes firstMatch arranged operandsOf arrangedIf isCallRow isPairRow labelRow rowOf nameAt cutAtCalls scopesThat rowsOfScopes instructions labelRows total holder withoutLastEmpty labelsAfterHead listedLabels hostsFrom isIn keptFrom firstAbove127 readRows rowsRead sortedOf tabled hostsOf programWords grouped linesOfGroups joined general memory canonicalBy canonicalFrom firstMisplaced encodedRows assembled numberedLines printing completeOf firstUnreadable memoryBuilt builtWith onNumber onOperation onFirst allDecoded opened
 cases-hold = (refl, (refl, (refl, (refl, (refl, (refl, (refl, (refl, (refl, (refl, (refl, (refl, (refl, (refl, (refl, (refl, (refl, (refl, (refl, (tt))))))))))))))))))))

@@ -14,14 +14,14 @@ use Rattle.text_read.specs.Numerals.{digitValue, valueFrom, numeral}
 use Rattle.vm_opcodes.specs.Operations.{operations, firstOperation}
 use Rattle.vm_hardware.specs.Registers.{registers, registerOf, specialOf}
 use Rattle.vm_operands.specs.Numbers.{signed, numberOf}
-use Rattle.asm.specs.Parts.{placed, filledParts, linePieces, rowPieces}
+use Rattle.asm.specs.Parts.{placed, filledParts, piecesFrom, linePieces, rowPieces, nameAt}
 use Rattle.asm.specs.Operands.{shapes, firstMatch}
-use Rattle.asm.specs.Rows.{arranged, operandsOf, arrangedIf, isCallRow, isPairRow, labelRow, rowOf}
+use Rattle.asm.specs.Rows.{arranged, operandsOf, arrangedIf, isCallRow, isPairRow, labelRow, rowOf, instructions, readRows}
 use Rattle.asm.specs.declared.AsmRow.{AsmRow}
-use Rattle.relocate.specs.Scopes.{nameAt, cutAtCalls, scopesThat, rowsOfScopes}
-use Rattle.relocate.specs.Labels.{instructions, labelRows, holder, tableOf}
+use Rattle.relocate.specs.Scopes.{cutAtCalls, scopesThat, rowsOfScopes}
+use Rattle.relocate.specs.Labels.{labelRows, holder, tableOf}
 use Rattle.relocate.specs.Prophets.{withoutLastEmpty, labelsAfterHead, listedLabels, hostsFrom, isIn, keptFrom, keptCount}
-use Rattle.relocate.specs.Relocate.{firstAbove127, readRows, rowsRead, sortedOf, tabled, hostsOf}
+use Rattle.relocate.specs.Relocate.{firstAbove127, rowsRead, sortedOf, tabled, hostsOf}
 use Rattle.relocate.specs.declared.LabelEntry.{LabelEntry}
 
 -- kind, mapped, start, length, address
@@ -93,11 +93,11 @@ hostCases =
     ∷ []
 
 tables-right : map (λ c. tableWith (c .0) (c .1)) tableCases ≡ map (λ c. c .2) tableCases
-unfolding isSpace isDigit isLetter isWord same total scan all parts _>>=_ _>>_ refuseIf refuseAt digitValue valueFrom numeral operations firstOperation registers registerOf specialOf signed numberOf placed filledParts linePieces rowPieces shapes firstMatch arranged operandsOf arrangedIf isCallRow isPairRow labelRow rowOf nameAt cutAtCalls scopesThat rowsOfScopes instructions labelRows holder firstAbove127 readRows rowsRead sortedOf tabled
+unfolding isSpace isDigit isLetter isWord same total scan all parts _>>=_ _>>_ refuseIf refuseAt digitValue valueFrom numeral operations firstOperation registers registerOf specialOf signed numberOf placed filledParts piecesFrom linePieces rowPieces shapes firstMatch arranged operandsOf arrangedIf isCallRow isPairRow labelRow rowOf nameAt cutAtCalls scopesThat rowsOfScopes instructions labelRows holder firstAbove127 readRows rowsRead sortedOf tabled
 tables-right = refl
 
 hosts-right : map (λ c. hostsWith (c .0) (c .1)) hostCases ≡ map (λ c. c .2) hostCases
-unfolding isSpace isDigit isLetter isWord same total scan all parts _>>=_ _>>_ refuseIf refuseAt digitValue valueFrom numeral operations firstOperation registers registerOf specialOf signed numberOf placed filledParts linePieces rowPieces shapes firstMatch arranged operandsOf arrangedIf isCallRow isPairRow labelRow rowOf nameAt cutAtCalls scopesThat rowsOfScopes instructions labelRows holder withoutLastEmpty labelsAfterHead listedLabels hostsFrom isIn keptFrom firstAbove127 readRows rowsRead sortedOf hostsOf
+unfolding isSpace isDigit isLetter isWord same total scan all parts _>>=_ _>>_ refuseIf refuseAt digitValue valueFrom numeral operations firstOperation registers registerOf specialOf signed numberOf placed filledParts piecesFrom linePieces rowPieces shapes firstMatch arranged operandsOf arrangedIf isCallRow isPairRow labelRow rowOf nameAt cutAtCalls scopesThat rowsOfScopes instructions labelRows holder withoutLastEmpty labelsAfterHead listedLabels hostsFrom isIn keptFrom firstAbove127 readRows rowsRead sortedOf hostsOf
 hosts-right = refl
 
 -- 1 and 8 stand before everything else, whatever the bytes are

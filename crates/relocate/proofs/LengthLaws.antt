@@ -14,7 +14,7 @@ use Rattle.text.proofs.AnswerLaws.{not-ok, ok-same, ok-bind, if-passed, at-pass
 use Rattle.text.proofs.SumLaws.{total-least, total-most, total-take}
 use Rattle.vm_operands.specs.Numbers.{order}
 use Rattle.asm.specs.Parts.{Part, sourcePieces}
-use Rattle.asm.specs.Rows.{rowOf, counted, countedLength}
+use Rattle.asm.specs.Rows.{rowOf, counted, countedLength, instructions, rowRead, readRows}
 use Rattle.asm.specs.declared.OlaAsmOperand.{OlaAsmOperand}
 use Rattle.asm.specs.declared.OlaAsmOperand.the-variants.{Empty, ImmediateOperand, RegisterOperand, RegisterWithOffset, RegisterWithFactoredRegOffset, SpecialReg, Label, Identifier}
 use Rattle.asm.specs.declared.OlaAsmInstruction.{OlaAsmInstruction}
@@ -24,8 +24,8 @@ use Rattle.asm.specs.declared.RowRead.{RowRead}
 use Rattle.asm.specs.declared.RowRead.the-variants.{Is, Unreadable}
 use Rattle.asm.proofs.LengthLaws.{rowBytes, source-bytes, leastBytes, least-four, BareIsEmpty, row-least, row-bare}
 use Rattle.relocate.specs.Scopes.{sortedRows, mainCount}
-use Rattle.relocate.specs.Labels.{instructions, labelRows, addressOf}
-use Rattle.relocate.specs.Relocate.{firstAbove127, rowRead, readRows, rowsRead, sortedOf, tabled}
+use Rattle.relocate.specs.Labels.{labelRows, addressOf}
+use Rattle.relocate.specs.Relocate.{firstAbove127, rowsRead, sortedOf, tabled}
 use Rattle.relocate.proofs.SortLaws.{sorted-total, sorted-all}
 
 -- ---- what an accepted source says

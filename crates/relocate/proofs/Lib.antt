@@ -1,3 +1,7 @@
 pub mod SortLaws
 pub mod LengthLaws
+pub mod CutLaws
+pub mod ScopeLaws
+pub mod StretchLaws
+pub mod WalkLaws
 pub mod Cases

@@ -8,11 +8,11 @@ use Rattle.text.specs.Lists.{total}
 use Rattle.text.proofs.All.{All}
 use Rattle.text.proofs.AllLaws.{all-append, all-front, all-rest}
 use Rattle.text.proofs.SumLaws.{total-append}
+use Rattle.asm.specs.Rows.{instructions}
 use Rattle.asm.specs.declared.OlaAsmInstruction.{OlaAsmInstruction}
 use Rattle.asm.specs.declared.AsmRow.{AsmRow}
 use Rattle.asm.specs.declared.AsmRow.the-variants.{Instruction, LabelCall, LabelJmp, LabelProphet}
 use Rattle.relocate.specs.Scopes.{Scope, Cut, inFront, cutAtCalls, scopesOf, isMain, isOther, scopesThat, rowsOfScopes, sortedRows}
-use Rattle.relocate.specs.Labels.{instructions}
 
 -- ---- the scopes, one after another, are the rows
 
@@ -31,7 +31,8 @@ in-front s (LabelCall start n) c = refl
 in-front s (LabelJmp start n) c = refl
 in-front s (LabelProphet start n) c = refl
 
-cut-rows : (s : List ℕ) (rs : List AsmRow) → (cutAtCalls s rs) .ahead ++ rowsOfScopes ((cutAtCalls s rs) .scopes) ≡ rs
+-- the rows ahead of the first call label and those of the scopes are all
+pub cut-rows : (s : List ℕ) (rs : List AsmRow) → (cutAtCalls s rs) .ahead ++ rowsOfScopes ((cutAtCalls s rs) .scopes) ≡ rs
 unfolding cutAtCalls rowsOfScopes
 cut-rows s [] = refl
 cut-rows s (r ∷ rs) = in-front s r (cutAtCalls s rs) ∙ ap (λ (l : List AsmRow). r ∷ l) (cut-rows s rs)

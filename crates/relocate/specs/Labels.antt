@@ -8,21 +8,13 @@ use lib.ListN.{length, take}
 use Rattle.text.specs.Bytes.{same}
 use Rattle.text.specs.Lists.{total}
 use Rattle.text.specs.Scan.{isEmpty}
-use Rattle.asm.specs.Rows.{countedLength}
+use Rattle.asm.specs.Parts.{nameAt}
+use Rattle.asm.specs.Rows.{instructions, countedLength}
 use Rattle.asm.specs.declared.OlaAsmInstruction.{OlaAsmInstruction}
 use Rattle.asm.specs.declared.AsmRow.{AsmRow}
 use Rattle.asm.specs.declared.AsmRow.the-variants.{Instruction, LabelCall, LabelJmp, LabelProphet}
-use Rattle.relocate.specs.Scopes.{nameAt}
 use Rattle.relocate.specs.declared.WordAddress.{WordAddress}
 use Rattle.relocate.specs.declared.LabelEntry.{LabelEntry}
-
--- the instruction rows, in order
-unfoldable pub instructions : List AsmRow → List OlaAsmInstruction
-instructions [] = []
-instructions (Instruction i ∷ rs) = i ∷ instructions rs
-instructions (LabelCall start n ∷ rs) = instructions rs
-instructions (LabelJmp start n ∷ rs) = instructions rs
-instructions (LabelProphet start n ∷ rs) = instructions rs
 
 -- "kind (0 call, 1 `.LBL`, 2 prophet)"
 abbrev pub callKind : ℕ

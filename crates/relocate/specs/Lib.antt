@@ -2,3 +2,5 @@ pub mod Scopes
 pub mod Labels
 pub mod Prophets
 pub mod Relocate
+pub mod Layout
+pub mod Columns

@@ -9,9 +9,10 @@ use Rattle.text.specs.Bytes.{bytes, same}
 use Rattle.text.specs.Scan.{parts, isEmpty}
 use Rattle.text.specs.Lines.{isFeed}
 use Rattle.text.specs.Answer.{Answer, ok, refused, _>>=_, _>>_, refuseIf}
+use Rattle.asm.specs.Rows.{instructions}
 use Rattle.asm.specs.declared.OlaAsmInstruction.{OlaAsmInstruction}
 use Rattle.asm.specs.declared.AsmRow.{AsmRow}
-use Rattle.relocate.specs.Labels.{LabelRow, prophetKind, instructions, labelRows, hostOf, holder}
+use Rattle.relocate.specs.Labels.{LabelRow, prophetKind, labelRows, hostOf, holder}
 
 -- "parted by line feeds, untrimmed, the final line feed optional"
 unfoldable pub withoutLastEmpty : List (List ℕ) → List (List ℕ)

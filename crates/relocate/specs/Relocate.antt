@@ -7,11 +7,9 @@ use lib.Dec.{eqb, ltb}
 use lib.ListN.{length}
 use Rattle.text.specs.Scan.{isEmpty}
 use Rattle.text.specs.Answer.{Answer, ok, refused, _>>=_, _>>_, refuseIf, refuseAt}
-use Rattle.asm.specs.Parts.{Part, sourcePieces}
-use Rattle.asm.specs.Rows.{rowOf}
+use Rattle.asm.specs.Parts.{sourcePieces}
+use Rattle.asm.specs.Rows.{readRows}
 use Rattle.asm.specs.declared.AsmRow.{AsmRow}
-use Rattle.asm.specs.declared.RowRead.{RowRead}
-use Rattle.asm.specs.declared.RowRead.the-variants.{Is, Unreadable}
 use Rattle.relocate.specs.Scopes.{sortedRows, mainCount}
 use Rattle.relocate.specs.Labels.{labelRows}
 use Rattle.relocate.specs.Prophets.{listedLabels, hostsFrom}
@@ -46,15 +44,6 @@ relocateDetail (ProphetUnknown index) = index
 unfoldable pub firstAbove127 : ℕ → List ℕ → Option ℕ
 firstAbove127 k [] = none
 firstAbove127 k (b ∷ bs) = let later = firstAbove127 (suc k) bs in cond (ltb 127 b) (some k) later
-
--- 3: "an unreadable row (non-empty rows before it)"
-abbrev pub rowRead : ℕ → RowRead → Answer AsmRow
-rowRead k (Is r) = ok r
-rowRead k Unreadable = refused 3 k
-
-unfoldable pub readRows : ℕ → List (List Part) → Answer (List AsmRow)
-readRows k [] = ok []
-readRows k (ps ∷ rest) = rowRead k (rowOf ps) >>= λ r. readRows (suc k) rest >>= λ rs. ok (r ∷ rs)
 
 -- refusals 1 to 3: the rows of a source, as written
 unfoldable pub rowsRead : List ℕ → Answer (List AsmRow)

@@ -1,18 +1,14 @@
 -- "Scopes": "A scope runs from one call label to the next; rows before the first have the empty label."
-use Prim.Native.Nat.{ℕ, _+_}
+use Prim.Native.Nat.{ℕ}
 use mathlib.Core.List.{List, [], _∷_, _++_}
 use mathlib.Core.Bool.{Bool, true, false, not, cond}
-use lib.Dec.{leb}
-use lib.ListN.{length, take, drop}
+use lib.ListN.{length}
 use Rattle.text.specs.Bytes.{bytes, same}
 use Rattle.text.specs.Scan.{isEmpty}
+use Rattle.asm.specs.Parts.{nameAt}
 use Rattle.asm.specs.declared.OlaAsmInstruction.{OlaAsmInstruction}
 use Rattle.asm.specs.declared.AsmRow.{AsmRow}
 use Rattle.asm.specs.declared.AsmRow.the-variants.{Instruction, LabelCall, LabelJmp, LabelProphet}
-
--- "The name itself is handed back as that part of the source, an empty part where the entry reaches past the source's end"
-unfoldable pub nameAt : List ℕ → ℕ → ℕ → List ℕ
-nameAt s start n = cond (leb (start + n) (length s)) (take n (drop start s)) []
 
 pub record Scope : Type 0 where
   pub label : List ℕ

@@ -39,6 +39,34 @@ pub enum RelocateRefusal {
     ProphetUnknown(usize),
 }
 
+// What a source that passes refusals 1 to 7 adds up to, and the stretch of it that is main's scope, from start to end.
+pub struct Layout {
+    pub labels: usize,
+    pub instructions: usize,
+    pub counted: usize,
+    pub words: usize,
+    pub start: usize,
+    pub end: usize,
+}
+
+// Whether a source passes refusals 1 to 7.
+pub enum Measured {
+    Is(Layout),
+    Refused(RelocateRefusal),
+}
+
+// The address of the row that holds a name, or none.
+pub enum AddressFound {
+    At(WordAddress),
+    Nothing,
+}
+
+// How many prophets a list names, where refusals 8 and 9 do not turn it away.
+pub enum ProphetsListed {
+    Is(usize),
+    Refused(RelocateRefusal),
+}
+
 impl WordAddress {
     pub fn new(words: u64) -> Self
         ensures { λ r. ⌜ r ≡ record { 0 = words } ⌝ }

@@ -1,15 +1,15 @@
 -- Laws of scan and of what a test told, in the shapes in which functions ask for them; later crates cite them.
-use Prim.Native.Nat.{ℕ, suc, _+_, _-_, _<_, _≤_}
+use Prim.Native.Nat.{ℕ, zero, suc, _+_, _-_, _<_, _≤_}
 use mathlib.Core.Path.{_≡_, refl, sym, ap, _∙_}
 use mathlib.Core.List.{List, [], _∷_}
 use mathlib.Core.Bool.{Bool, true, false, cond, not, _&&_}
 use native.Mathlib.Omega.{arith}
-use native.Mathlib.Numerals.{add-one}
-use native.Mathlib.Nat.{zero-add, le-refl}
+use native.Mathlib.Numerals.{add-one, unary-clauses}
+use native.Mathlib.Nat.{zero-add, zero-sub, le-refl}
 use borrow.Author.Needs.{needs}
 use borrow.Author.Tests.{le-leb, lt-leb, lt-ltb, le-ltb, eq-eqb, ne-eqb, not-true, not-false}
 use lib.ListN.{length, getD, take, drop, drop-of-length-le, length-drop}
-use lib.Seq.{drop-cons, take-all, length-take-le}
+use lib.Seq.{slice, drop-cons, take-all, take-nil, length-take-le}
 use Rattle.text.specs.Scan.{scan, all}
 
 -- a definition that goes by tests, at a return: each test's value from what a branch told
@@ -22,6 +22,13 @@ drop-next s i h = rw add-one (drop-cons s i 0 h)
 -- a part `&s[a..]`, as the code has it, is what `drop` leaves
 pub part-from : (a : ℕ) (l : List ℕ) → take (length l - a) (drop a l) ≡ drop a l
 part-from a l = take-all (length l - a) (drop a l) (simp length-drop (le-refl _))
+
+-- a part `&l[f..t]`, as the code has it, is the slice
+pub part-slice : (f t : ℕ) (l : List ℕ) → take (t - f) (drop f l) ≡ slice f t l
+part-slice zero t l = simp unary-clauses refl
+part-slice (suc f) zero l = rw (zero-sub (suc f))
+part-slice (suc f) (suc t) [] = simp unary-clauses (take-nil (t - f))
+part-slice (suc f) (suc t) (x ∷ xs) = simp unary-clauses (part-slice f t xs)
 
 -- what a call that returns a flag told, behind a test of the flag
 module _ (r t : Bool) (e : r ≡ t) where

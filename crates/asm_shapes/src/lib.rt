@@ -1,0 +1,114 @@
+// What operand shapes and label rows are made of: a byte at a place, digits, a pair of digits, a name, a register at a place, a number.
+// Every function takes a piece or a part of one and requires nothing of it.
+use text::ByteClass;
+use vm_hardware::RegisterFound;
+use vm_operands::ImmediateFound;
+use vm_operands::ImmediateValue;
+ghost use mathlib.Core.Path.{_≡_};
+ghost use Rattle.asm.specs.Operands.{byteIs, isDigits, isPair, isName, isSourceNumber};
+ghost use Rattle.asm_shapes.specs.Shapes.{registerFoundAt, sourceNumberOf};
+
+// What a text says as the number n of a shape: a number, one that is out of range, or no number.
+pub enum SourceNumber {
+    Is(ImmediateValue),
+    OutOfRange,
+    Other,
+}
+
+// Whether byte b stands at place k; past the end stands 0.
+pub fn byte_is(text: &[u8], k: usize, b: u8) -> bool
+    ensures { λ r. ⌜ r ≡ byteIs (now (text .entry)) k b ⌝ }
+{
+    if text.len() <= k {
+        return b == 0;
+    }
+    text[k] == b
+}
+
+// One or more digits.
+pub fn is_digits(text: &[u8]) -> bool
+    ensures { λ r. ⌜ r ≡ isDigits (now (text .entry)) ⌝ }
+{
+    let n = ByteClass::Digit.scan(text);
+    if n == 0 {
+        return false;
+    }
+    n == text.len()
+}
+
+// Digits, `_`, digits.
+pub fn is_pair(text: &[u8]) -> bool
+    ensures { λ r. ⌜ r ≡ isPair (now (text .entry)) ⌝ }
+{
+    let k = ByteClass::Digit.scan(text);
+    if k == 0 {
+        return false;
+    }
+    if k == text.len() {
+        return false;
+    }
+    if text[k] != 95 {
+        return false;
+    }
+    is_digits(&text[k + 1..])
+}
+
+// Any underscores or none, at least one letter, then any letters, digits, underscores or none.
+pub fn is_name(text: &[u8]) -> bool
+    ensures { λ r. ⌜ r ≡ isName (now (text .entry)) ⌝ }
+{
+    let k = ByteClass::Is(95).scan(text);
+    if k == text.len() {
+        return false;
+    }
+    if !ByteClass::Letter.contains(text[k]) {
+        return false;
+    }
+    let rest = &text[k..];
+    let n = ByteClass::Word.scan(rest);
+    n == rest.len()
+}
+
+// The register rA that stands at place k.
+pub fn register_at(text: &[u8], k: usize) -> RegisterFound
+    ensures { λ r. ⌜ r ≡ registerFoundAt (now (text .entry)) k ⌝ }
+{
+    let n = text.len();
+    if n < 2 {
+        return RegisterFound::Nothing;
+    }
+    if n - 2 < k {
+        return RegisterFound::Nothing;
+    }
+    vm_registers::register_from_str(&text[k..k + 2])
+}
+
+// An optional sign and decimal digits.
+fn is_source_number(text: &[u8]) -> bool
+    ensures { λ r. ⌜ r ≡ isSourceNumber (now (text .entry)) ⌝ }
+{
+    if text.len() == 0 {
+        return false;
+    }
+    let sign = text[0];
+    if sign == 45 {
+        return is_digits(&text[1..]);
+    }
+    if sign == 43 {
+        return is_digits(&text[1..]);
+    }
+    is_digits(text)
+}
+
+// The number n of a shape.
+pub fn source_number(text: &[u8]) -> SourceNumber
+    ensures { λ r. ⌜ r ≡ sourceNumberOf (now (text .entry)) ⌝ }
+{
+    if !is_source_number(text) {
+        return SourceNumber::Other;
+    }
+    match ImmediateValue::from_str(text) {
+        ImmediateFound::Is(value) => SourceNumber::Is(value),
+        ImmediateFound::Nothing => SourceNumber::OutOfRange,
+    }
+}

@@ -1,0 +1,64 @@
+-- Refusals 1 to 7 by one survey, and the sorted rows line by line: main's stretch of the source, what stands before it, what stands after it.
+use Prim.Native.Nat.{ℕ, _+_, _-_}
+use mathlib.Core.List.{List}
+use mathlib.Core.Bool.{Bool, _&&_, cond}
+use lib.Dec.{eqb, leb, ltb}
+use lib.ListN.{length, take}
+use Rattle.text.specs.Answer.{Answer, ok, refused, _>>=_, _>>_, refuseIf, refuseAt}
+use Rattle.asm.specs.Rows.{rowAt}
+use Rattle.asm.specs.Survey.{surveyOf}
+use Rattle.asm.specs.declared.PlaceFound.{PlaceFound}
+use Rattle.asm.specs.declared.PlaceFound.the-variants.{At, Nothing}
+use Rattle.asm.specs.declared.RowAt.{RowAt}
+use Rattle.asm.specs.declared.Tally.{Tally}
+use Rattle.relocate.specs.Relocate.{relocateNumber, relocateDetail, firstAbove127}
+use Rattle.relocate.specs.declared.Layout.{Layout}
+use Rattle.relocate.specs.declared.Measured.{Measured}
+use Rattle.relocate.specs.declared.Measured.the-variants.{Is, Refused}
+
+abbrev pub placeOr : ℕ → PlaceFound → ℕ
+placeOr n (At i) = i
+placeOr n Nothing = n
+
+-- main's scope runs to the text's end where no call label follows
+abbrev pub layoutOf : List ℕ → Tally → Layout
+layoutOf s t = record {
+  labels = t .labels;
+  instructions = t .instructions;
+  counted = t .counted;
+  words = t .words;
+  start = placeOr 0 (t .main);
+  end = placeOr (length s) (t .end);
+}
+
+-- refusals 1 to 7, told by the survey's sums: StretchLaws says that this is `tabled`
+unfoldable pub measured : List ℕ → ℕ → Answer Layout
+measured s room = do
+  refuseIf (ltb 65536 (length s)) 1
+  refuseAt (firstAbove127 0 s) 2
+  t ← surveyOf s
+  refuseIf (eqb (t .rows) 0) 4
+  refuseIf (eqb (t .mains) 0) 5
+  refuseIf (ltb 1 (t .mains)) 6
+  refuseIf (ltb room (t .labels)) 7
+  ok (layoutOf s t)
+
+-- an answer by its number and detail, or its layout
+abbrev pub measuredNumbered : Measured → Answer Layout
+measuredNumbered (Is l) = ok l
+measuredNumbered (Refused f) = refused (relocateNumber f) (relocateDetail f)
+
+-- ---- the sorted rows, line by line
+
+-- a line read at another place
+abbrev pub further : ℕ → ℕ → RowAt → RowAt
+further add take r = record { read = r .read; next = r .next + add - take }
+
+-- the line at place v of the sorted source: main's stretch comes first, then what stands before it, then what stands after it
+unfoldable pub sortedRowAt : List ℕ → ℕ → ℕ → ℕ → RowAt
+sortedRowAt s start end v =
+    cond (leb start end && leb end (length s))
+    (cond (ltb v (end - start)) (further 0 start (rowAt (take end s) (start + v)))
+    (cond (ltb v end) (further (end - start) 0 (rowAt (take start s) (v - (end - start))))
+    (rowAt s v)))
+    (rowAt s v)

@@ -1,0 +1,83 @@
+-- `relocate_prophets::put_hosts` meets its contract.
+use Prim.Native.Nat.{_+_, _-_, _≤_}
+use mathlib.Core.Path.{_≡_}
+use lib.ListN.{length}
+use lib.Seq.{sets}
+use Rattle.relocate.specs.Columns.{entriesOf}
+use Rattle.relocate_prophets.specs.Walk.{linesFrom, hostsIn}
+use Rattle.relocate_prophets.proofs.HostLaws.{put-laws}
+use Rattle.relocate_prophets.proofs.put_hosts.Statement.{statement}
+use Rattle.relocate_prophets.proofs.put_hosts.Tie as tie
+
+abbrev Inv-loop : tie.InvT-loop
+Inv-loop source prophets start kinds mapped starts lengths addresses hosts₀ index₀ at₀ hosts index at = (index ≤ at) × (length hosts ≡ length hosts₀) × (index + length (linesFrom prophets at) ≤ length hosts) × (sets hosts₀ 0 (hostsIn source (entriesOf kinds mapped starts lengths addresses) (linesFrom prophets start)) ≡ sets hosts index (hostsIn source (entriesOf kinds mapped starts lengths addresses) (linesFrom prophets at)))
+
+abbrev μ-loop : tie.MeasureT-loop
+μ-loop source prophets start kinds mapped starts lengths addresses hosts₀ index₀ at₀ hosts index at = length prophets - at
+
+loop-holds : tie.Need-loop-holds Inv-loop μ-loop
+loop-holds c = (search put-laws, search put-laws, search put-laws, search put-laws)
+
+line-at-requires : tie.Need-line-at-requires Inv-loop μ-loop
+line-at-requires c κs = search put-laws
+
+add-end : tie.Need-add-end Inv-loop μ-loop
+add-end c = search put-laws
+
+sub-label : tie.Need-sub-label Inv-loop μ-loop
+sub-label c = search put-laws
+
+part-label-start : tie.Need-part-label-start Inv-loop μ-loop
+part-label-start c = search put-laws
+
+part-label-end : tie.Need-part-label-end Inv-loop μ-loop
+part-label-end c = search put-laws
+
+held-address-requires : tie.Need-held-address-requires Inv-loop μ-loop
+held-address-requires c κs = search put-laws
+
+host-in-requires : tie.Need-host-in-requires Inv-loop μ-loop
+host-in-requires c κs = search put-laws
+
+mul-hosts : tie.Need-mul-hosts Inv-loop μ-loop
+mul-hosts c = search put-laws
+
+slice-write-hosts : tie.Need-slice-write-hosts Inv-loop μ-loop
+slice-write-hosts c = search put-laws
+
+add-index : tie.Need-add-index Inv-loop μ-loop
+add-index c = search put-laws
+
+loop-less : tie.Need-loop-less Inv-loop μ-loop
+loop-less c = search put-laws
+
+loop-again : tie.Need-loop-again Inv-loop μ-loop
+loop-again c = (search put-laws, search put-laws, search put-laws, search put-laws)
+
+same-length : tie.Need-same-length Inv-loop μ-loop
+same-length c = search put-laws
+
+returns : tie.Need-returns Inv-loop μ-loop
+returns c = search put-laws
+
+pub put-hosts-spec : {M : Type 1} → statement M
+put-hosts-spec =
+    tie.close
+    (tie.spec
+    Inv-loop
+    μ-loop
+    loop-holds
+    line-at-requires
+    add-end
+    sub-label
+    part-label-start
+    part-label-end
+    held-address-requires
+    host-in-requires
+    mul-hosts
+    slice-write-hosts
+    add-index
+    loop-less
+    loop-again
+    same-length
+    returns)
