@@ -75,15 +75,17 @@ line-bytes q =
     let d = length-take-le (scan (λ b. not (eqb b 59)) (q .text)) (q .text) n in
     omega arith
 
+either-bytes : (n : ℕ) (t : Bool) (xs ys : List (List Part)) → total (map rowBytes xs) ≤ n → total (map rowBytes ys) ≤ n → total (map rowBytes (cond t xs ys)) ≤ n
+either-bytes n true xs ys h k = h
+either-bytes n false xs ys h k = k
+
 rows-bytes : (qs : List Part) → total (map rowBytes (rowPieces qs)) ≤ rowBytes qs
 unfolding rowPieces total
 rows-bytes [] = omega arith
-rows-bytes (q ∷ qs) = go (isEmpty (linePieces q)) (line-bytes q) (rows-bytes qs)
-  where
-    go : (t : Bool) → rowBytes (linePieces q) ≤ pieceBytes q → total (map rowBytes (rowPieces qs)) ≤ rowBytes qs
-        → total (map rowBytes (cond t (rowPieces qs) (linePieces q ∷ rowPieces qs))) ≤ rowBytes (q ∷ qs)
-    go true a h = omega arith
-    go false a h = omega arith
+rows-bytes (q ∷ qs) =
+    let a = line-bytes q in
+    let h = rows-bytes qs in
+    either-bytes (rowBytes (q ∷ qs)) (isEmpty (linePieces q)) _ _ (omega arith) (omega arith)
 
 -- over all rows of a source, the bytes of the pieces and one byte after each are at most the source's bytes and one
 pub source-bytes : (s : List ℕ) → total (map rowBytes (sourcePieces s)) ≤ length s + 1

@@ -2,13 +2,12 @@
 use Prim.Native.Nat.{ℕ, _+_, _-_, _^_, _<_, _≤_}
 use mathlib.Core.Path.{_≡_, refl, sym, ap, _∙_}
 use mathlib.Core.List.{List, [], _∷_}
-use mathlib.Core.Bool.{Bool, not}
+use mathlib.Core.Bool.{Bool}
 use mathlib.Core.Option.{Option, none, some}
 use native.Mathlib.Omega.{arith}
 use borrow.Author.Needs.{needs}
 use mir.Val.{Fits}
 use mir.Syntax.{w64}
-use lib.Dec.{eqb}
 use lib.ListN.{length, take, drop, length-drop, drop-of-length-le}
 use lib.Seq.{length-take-le, take-take}
 use Rattle.text.specs.Scan.{scan, parts}
@@ -149,9 +148,6 @@ pub ruleset line-laws = (piece-ends, end-fits, line-blank, line-row, line-unread
 
 -- ---- the line of a source that starts at a place
 
-abbrev notComment : ℕ → Bool
-notComment b = not (eqb b 59)
-
 -- past the end there is no row
 pub row-past : (s : List ℕ) (i : ℕ) → length s ≤ i → record { read = Blank; next = i } ≡ rowAt s i
 unfolding linePieces piecesFrom placed filledParts parts lineNext scan
@@ -174,13 +170,14 @@ module _ (s : List ℕ) (i a : ℕ) (e : a ≡ scan (holds (IsNot 10)) (take (le
   pub next-fits : i < length s → length s < 2 ^ 64 → (i + a ≡ length s → ⊥) → Fits w64 (i + a + 1)
   next-fits h f g = let k = feed-within h in omega arith
 
-module _ (s : List ℕ) (i a b : ℕ) (e : a ≡ scan (holds (IsNot 10)) (take (length s - i) (drop i s))) (f : b ≡ scan (holds (IsNot 59)) (take (i + a - i) (drop i s))) where
-  code-at : b ≡ scan notComment (take a (drop i s))
-  code-at = let n : i + a - i ≡ a = omega arith in f ∙ ap (λ (n : ℕ). scan notComment (take n (drop i s))) n
+-- what stands in the line up to the first byte that fails a test
+module _ (s : List ℕ) (i a b : ℕ) (p : ℕ → Bool) (e : a ≡ scan (holds (IsNot 10)) (take (length s - i) (drop i s))) (f : b ≡ scan p (take (i + a - i) (drop i s))) where
+  code-at : b ≡ scan p (take a (drop i s))
+  code-at = let n : i + a - i ≡ a = omega arith in f ∙ ap (λ (n : ℕ). scan p (take n (drop i s))) n
 
   code-le : b ≤ a
   code-le =
-      let w = scan-le notComment (take a (drop i s)) in
+      let w = scan-le p (take a (drop i s)) in
       let k = length-take-le a (drop i s) (feed-le s i a e) in
       let c = code-at in
       omega arith
@@ -191,18 +188,19 @@ module _ (s : List ℕ) (i a b : ℕ) (e : a ≡ scan (holds (IsNot 10)) (take (
   pub code-fits : i < length s → length s < 2 ^ 64 → Fits w64 (i + b)
   code-fits h g = let k = code-within h in omega arith
 
-  -- what stands up to it has as many bytes
+  -- it has as many bytes
   pub code-counts : i < length s → i + b ≡ length (take (i + b) s)
   code-counts h = sym (length-take-le (i + b) s (code-within h))
 
+module _ (s : List ℕ) (i a b : ℕ) (e : a ≡ scan (holds (IsNot 10)) (take (length s - i) (drop i s))) (f : b ≡ scan (holds (IsNot 59)) (take (i + a - i) (drop i s))) where
   -- what stands up to the end of the line's code has the line's pieces from place i on
   code-pieces : piecesFrom i (drop i (take (i + b) s)) ≡ linePieces (lineAt s i)
   unfolding linePieces
   code-pieces =
       ap (piecesFrom i)
       (part-taken i b s
-      ∙ sym (take-take b a (drop i s) code-le)
-      ∙ ap (λ (n : ℕ). take n (take a (drop i s))) code-at
+      ∙ sym (take-take b a (drop i s) (code-le s i a b (holds (IsNot 59)) e f))
+      ∙ ap (λ (n : ℕ). take n (take a (drop i s))) (code-at s i a b (holds (IsNot 59)) e f)
       ∙ ap (λ (n : ℕ). withoutComment (take n (drop i s))) (feed-at s i a e))
 
   module _ (r : LineRead) (g : r ≡ lineOf (piecesFrom i (drop i (take (i + b) s)))) where

@@ -4,4 +4,5 @@ pub mod CutLaws
 pub mod ScopeLaws
 pub mod StretchLaws
 pub mod WalkLaws
+pub mod ColumnLaws
 pub mod Cases

@@ -30,30 +30,12 @@ use Rattle.asm.proofs.PlaceLaws.{arranged-if-related}
 use Rattle.relocate.specs.Scopes.{sortedRows, mainCount}
 use Rattle.relocate.specs.Labels.{labelRows}
 use Rattle.relocate.specs.Relocate.{firstAbove127, rowsRead, sortedOf, tabled}
-use Rattle.relocate.specs.Layout.{placeOr, layoutOf, measured}
+use Rattle.relocate.specs.Layout.{placeOr, layoutOf, measured, onRead, readable, stretchRows, layoutRows}
 use Rattle.relocate.specs.declared.Layout.{Layout}
 use Rattle.relocate.proofs.SortLaws.{sorted-total}
 use Rattle.relocate.proofs.LengthLaws.{ReadAs, none-read, one-read, rows-read-as}
 use Rattle.relocate.proofs.CutLaws.{pieces-past, cut-pieces}
 use Rattle.relocate.proofs.ScopeLaws.{Ends, at-call, at-end, MainCut, main-cut, main-count, cut-sorted, sorted-labels, sorted-instructions-count}
-
--- a row in front, where it was read as one
-abbrev pub onRead : RowRead → List AsmRow → List AsmRow
-onRead (Is r) rs = r ∷ rs
-onRead Unreadable rs = rs
-
--- the rows that pieces are read as, the unreadable ones left out
-unfoldable pub readable : List (List Part) → List AsmRow
-readable [] = []
-readable (ps ∷ pss) = onRead (rowOf ps) (readable pss)
-
--- the rows of what stands in a text from place i on
-abbrev pub stretchRows : List ℕ → ℕ → List AsmRow
-stretchRows s i = readable (piecesAfter s i)
-
--- main's rows, what stands before them, what stands after them
-abbrev pub layoutRows : List ℕ → Layout → List AsmRow
-layoutRows s l = stretchRows (take (l .end) s) (l .start) ++ stretchRows (take (l .start) s) 0 ++ stretchRows s (l .end)
 
 -- ---- a stretch, line by line
 

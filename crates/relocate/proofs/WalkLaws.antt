@@ -16,14 +16,8 @@ use Rattle.asm.specs.declared.AsmRow.the-variants.{Instruction}
 use Rattle.asm.specs.declared.LineRead.the-variants.{Blank, Row, Unreadable}
 use Rattle.asm.specs.declared.RowAt.{RowAt}
 use Rattle.asm.proofs.StepLaws.{next-further, instruction-room}
-use Rattle.relocate.specs.Layout.{further, sortedRowAt}
-use Rattle.relocate.proofs.StretchLaws.{stretchRows, stretch-end, stretch-blank, stretch-row, stretch-unreadable}
-
--- the rows of the sorted source from place v on, where main's scope runs from start to end
-unfoldable pub sortedFrom : List ℕ → ℕ → ℕ → ℕ → List AsmRow
-sortedFrom s start end v =
-    cond (ltb v (end - start)) (stretchRows (take end s) (start + v) ++ stretchRows (take start s) 0 ++ stretchRows s end)
-    (cond (ltb v end) (stretchRows (take start s) (v - (end - start)) ++ stretchRows s end) (stretchRows s v))
+use Rattle.relocate.specs.Layout.{further, sortedRowAt, stretchRows, sortedFrom}
+use Rattle.relocate.proofs.StretchLaws.{stretch-end, stretch-blank, stretch-row, stretch-unreadable}
 
 module _ (s : List ℕ) (start end v : ℕ) (a : start ≤ end) (b : end ≤ length s) where
   -- after the second stretch only the third is left

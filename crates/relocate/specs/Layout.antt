@@ -1,12 +1,17 @@
 -- Refusals 1 to 7 by one survey, and the sorted rows line by line: main's stretch of the source, what stands before it, what stands after it.
 use Prim.Native.Nat.{ℕ, _+_, _-_}
-use mathlib.Core.List.{List}
+use mathlib.Core.List.{List, [], _∷_, _++_}
 use mathlib.Core.Bool.{Bool, _&&_, cond}
 use lib.Dec.{eqb, leb, ltb}
 use lib.ListN.{length, take}
 use Rattle.text.specs.Answer.{Answer, ok, refused, _>>=_, _>>_, refuseIf, refuseAt}
-use Rattle.asm.specs.Rows.{rowAt}
+use Rattle.asm.specs.Parts.{Part, piecesAfter}
+use Rattle.asm.specs.Rows.{rowOf, rowAt, instructions}
 use Rattle.asm.specs.Survey.{surveyOf}
+use Rattle.asm.specs.declared.OlaAsmInstruction.{OlaAsmInstruction}
+use Rattle.asm.specs.declared.AsmRow.{AsmRow}
+use Rattle.asm.specs.declared.RowRead.{RowRead}
+use Rattle.asm.specs.declared.RowRead.the-variants.{Is as IsRow, Unreadable}
 use Rattle.asm.specs.declared.PlaceFound.{PlaceFound}
 use Rattle.asm.specs.declared.PlaceFound.the-variants.{At, Nothing}
 use Rattle.asm.specs.declared.RowAt.{RowAt}
@@ -62,3 +67,33 @@ sortedRowAt s start end v =
     (cond (ltb v end) (further (end - start) 0 (rowAt (take start s) (v - (end - start))))
     (rowAt s v)))
     (rowAt s v)
+
+-- ---- all of them
+
+-- a row in front, where it was read as one
+abbrev pub onRead : RowRead → List AsmRow → List AsmRow
+onRead (IsRow r) rs = r ∷ rs
+onRead Unreadable rs = rs
+
+-- the rows that pieces are read as, the unreadable ones left out
+unfoldable pub readable : List (List Part) → List AsmRow
+readable [] = []
+readable (ps ∷ pss) = onRead (rowOf ps) (readable pss)
+
+-- the rows of what stands in a text from place i on
+abbrev pub stretchRows : List ℕ → ℕ → List AsmRow
+stretchRows s i = readable (piecesAfter s i)
+
+-- main's rows, what stands before them, what stands after them
+abbrev pub layoutRows : List ℕ → Layout → List AsmRow
+layoutRows s l = stretchRows (take (l .end) s) (l .start) ++ stretchRows (take (l .start) s) 0 ++ stretchRows s (l .end)
+
+-- the rows of the sorted source from place v on, where main's scope runs from start to end
+unfoldable pub sortedFrom : List ℕ → ℕ → ℕ → ℕ → List AsmRow
+sortedFrom s start end v =
+    cond (ltb v (end - start)) (stretchRows (take end s) (start + v) ++ stretchRows (take start s) 0 ++ stretchRows s end)
+    (cond (ltb v end) (stretchRows (take start s) (v - (end - start)) ++ stretchRows s end) (stretchRows s v))
+
+-- the sorted instruction rows; none where start and end are no stretch of the source
+unfoldable pub sortedInstructions : List ℕ → ℕ → ℕ → List OlaAsmInstruction
+sortedInstructions s start end = cond (leb start end && leb end (length s)) (instructions (sortedFrom s start end 0)) []

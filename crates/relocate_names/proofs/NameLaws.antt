@@ -21,15 +21,16 @@ use Rattle.relocate_names.specs.Shortest.{shortestOf}
 -- ---- a name as a part of a source
 
 module _ (s : List ℕ) (start n : ℕ) where
+  -- a part that reaches past the end is empty
   past : length s < start + n → [] ≡ nameAt s start n
   unfolding nameAt
   past h = rw (lt-leb (start + n) (length s) h)
 
-  -- a part that starts past the end is empty
+  -- so where it starts past the end
   pub name-past : length s < start → [] ≡ nameAt s start n
   name-past h = past (omega arith)
 
-  -- so is one that ends past it
+  -- and where it ends past it
   pub name-long : start ≤ length s → length s - start < n → [] ≡ nameAt s start n
   name-long h k = past (omega arith)
 
@@ -65,6 +66,7 @@ entryAt ks ms ss ls as′ i = record { kind = getD ks i 0; mapped = getD ms i fa
 abbrev nothing : LabelEntry
 nothing = record { kind = 0; mapped = false; start = 0; length = 0; address = record { 0 = 0 } }
 
+-- which the table has there
 entries-at : (ks : List ℕ) (ms : List Bool) (ss ls as′ : List ℕ) (i : ℕ) → i < length ks → i < length ms → i < length ss → i < length ls → i < length as′
     → getD (entriesOf ks ms ss ls as′) i nothing ≡ entryAt ks ms ss ls as′ i
 unfolding entriesOf
@@ -128,6 +130,7 @@ module _ (s : List ℕ) (kind : ℕ) (x ks : List ℕ) (ms : List Bool) (ss ls a
       held-other q = turn false (rw (h, ne-eqb _ _ q))
 
       module _ (q : getD ks (i - 1) 0 ≡ kind) (r : Bool) (n : r ≡ same (nameAt s (getD ss (i - 1) 0) (getD ls (i - 1) 0)) x) where
+        -- whether it has the name is what the comparison told
         named : entryNames s kind x (entryAt ks ms ss ls as′ (i - 1)) ≡ r
         named = rw (h, eq-eqb _ _ q) (sym n)
 

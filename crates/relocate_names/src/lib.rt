@@ -42,6 +42,7 @@ fn same_name(source: &[u8], start: usize, length: usize, name: &[u8]) -> bool
     text::same_bytes(name_at(source, start, length), name)
 }
 
+// The lesser of two.
 fn lesser(a: usize, b: usize) -> usize
     ensures { λ r. ⌜ r ≡ min a b ⌝ }
 {

@@ -39,6 +39,7 @@ use Rattle.relocate_prophets.proofs.LineLaws.{lines-end, lines-next, la
 -- ---- a line of the list
 
 module _ (list : List ℕ) (at : ℕ) (line : Line) (e : line ≡ lineFrom list at) where
+  -- the line's two fields
   line-length : line .length ≡ scan notFeed (drop at list)
   line-length = ap (λ (x : Line). x .length) e
 
@@ -53,6 +54,7 @@ module _ (list : List ℕ) (at : ℕ) (line : Line) (e : line ≡ lineFrom list 
       let c = length-drop at list in
       omega arith
 
+  -- so its end fits a usize
   pub label-fits : at < length list → length list < 2 ^ 64 → Fits w64 (at + line .length)
   label-fits h f = let w = label-within h in omega arith
 
@@ -64,6 +66,7 @@ module _ (list : List ℕ) (at : ℕ) (line : Line) (e : line ≡ lineFrom list 
   pub label-index : (k : ℕ) → at < length list → k ≤ at → k + 1 ≤ line .next
   label-index k h i = let a = label-next h in omega arith
 
+  -- and less is left to walk
   pub label-less : at < length list → length list - line .next < length list - at
   label-less h = let a = label-next h in omega arith
 
@@ -81,12 +84,14 @@ pub ruleset label-laws = (label-within, label-fits, label-index, label-less)
 abbrev pub counted : ℕ → Answer (List ℕ) → Answer ℕ
 counted n answer = answer >>= λ hs. ok (n + length hs)
 
+-- none stand ahead of the first
 count-from : (a : Answer (List ℕ)) → hostCount a ≡ counted 0 a
 unfolding _>>=_
 count-from (ok hs) = ap ok (sym (zero-add (length hs)))
 count-from (refused n d) = refl
 
 module _ (s : List ℕ) (es : List LabelEntry) (k : ℕ) (x : List ℕ) (xs : List (List ℕ)) where
+  -- a label found counts one
   count-found : (w : WordAddress) → heldAddress s prophetKind x es ≡ At w → counted k (heldHostsFrom s es k (x ∷ xs)) ≡ counted (k + 1) (heldHostsFrom s es (k + 1) xs)
   unfolding heldHostsFrom _>>=_
   count-found w e = rw (e, add-one k) (go (heldHostsFrom s es (suc k) xs))
@@ -95,11 +100,13 @@ module _ (s : List ℕ) (es : List LabelEntry) (k : ℕ) (x : List ℕ) (xs : Li
       go (ok hs) = ap ok (omega arith)
       go (refused n d) = refl
 
+  -- one that is not found is the answer
   count-unknown : heldAddress s prophetKind x es ≡ Nothing → counted k (heldHostsFrom s es k (x ∷ xs)) ≡ refused 9 k
   unfolding heldHostsFrom _>>=_
   count-unknown e = rw e
 
 module _ (s : List ℕ) (es : List LabelEntry) (list : List ℕ) (start : ℕ) where
+  -- where the walk begins
   pub count-start : hostCount (heldHostsFrom s es 0 (linesFrom list start)) ≡ counted 0 (heldHostsFrom s es 0 (linesFrom list start))
   count-start = count-from (heldHostsFrom s es 0 (linesFrom list start))
 
@@ -130,9 +137,11 @@ pub ruleset count-laws = (label-laws, count-start, count-more, count-none, count
 -- ---- the list's head
 
 module _ (s : List ℕ) (es : List LabelEntry) (list : List ℕ) (p : PlaceFound) (e : p ≡ labelsStart list) where
+  -- the labels by where they start
   listed-told : listedLabels list ≡ labelsFound list p
   listed-told = listed-found list ∙ ap (labelsFound list) (sym e)
 
+  -- their hosts, and refusal 8
   hosts-at : (i : ℕ) → p ≡ AtPlace i → heldHosts s es list ≡ heldHostsFrom s es 0 (linesFrom list i)
   unfolding heldHosts _>>=_
   hosts-at i f = rw (listed-told, f)
@@ -155,6 +164,7 @@ pub ruleset head-laws = (head-other, head-label, needs)
 -- ---- the hosts written
 
 module _ (list : List ℕ) (index at : ℕ) (line : Line) (e : line ≡ lineFrom list at) (h : at < length list) where
+  -- a line less is left
   lines-count : length (linesFrom list at) ≡ suc (length (linesFrom list (line .next)))
   lines-count = ap length (label-first list at line e h)
 
@@ -191,10 +201,12 @@ fit-count r n room e = rw e
 
 pub ruleset fit-laws = (fit-count, needs)
 
+-- an accepted host is the one found
 host-is : (k : ℕ) (a : AddressFound) (h : ℕ) → heldHost k a ≡ ok h → h ≡ hostIn a
 host-is k (At w) h e = sym (ok-same e)
 host-is k Nothing h e = absurd (not-ok e)
 
+-- lists with the same head and the same rest
 cons-same : {x y : ℕ} {xs ys : List ℕ} → x ≡ y → xs ≡ ys → x ∷ xs ≡ y ∷ ys
 cons-same p q = cc
 
@@ -210,6 +222,7 @@ hosts-are s es k (x ∷ xs) hs e =
     sym (ok-same (b .2)) ∙ cons-same p q
 
 module _ (s : List ℕ) (es : List LabelEntry) (list old : List ℕ) (r : ProphetsListed) (e : listedNumbered r ≡ hostCount (heldHosts s es list)) (b : Bool) (t : b ≡ fitsIn (length old) (listedNumbered r)) where
+  -- the test is about the count of all hosts
   fitted : b ≡ fitsIn (length old) (hostCount (heldHosts s es list))
   fitted = t ∙ ap (fitsIn (length old)) e
 
@@ -223,6 +236,7 @@ module _ (s : List ℕ) (es : List LabelEntry) (list old : List ℕ) (r : Prophe
       go (refused n d) g = refl
 
   module _ (f : b ≡ true) (p : PlaceFound) (q : p ≡ labelsStart list) where
+    -- a list that passes it is accepted, and has room
     told : (hs : List ℕ) × (heldHosts s es list ≡ ok hs) × (length hs ≤ length old)
     unfolding _>>=_
     told = go (heldHosts s es list) refl (sym fitted ∙ f)
@@ -232,9 +246,11 @@ module _ (s : List ℕ) (es : List LabelEntry) (list old : List ℕ) (r : Prophe
         go (refused n d) k g = let z : _≡_ {A = ℕ} 0 1 = cc in absurd (omega arith)
 
     module _ (i : ℕ) (g : p ≡ AtPlace i) where
+      -- its hosts are those of its labels
       accepted : heldHosts s es list ≡ ok (hostsIn s es (linesFrom list i))
       accepted = told .1 ∙ ap ok (hosts-are s es 0 (linesFrom list i) (told .0) (sym (hosts-at s es list p q i g) ∙ told .1))
 
+      -- which fit
       fit : length (hostsIn s es (linesFrom list i)) ≤ length old
       fit = let w = told in let k = ap length (ok-same (sym (w .1) ∙ accepted)) in omega arith
 

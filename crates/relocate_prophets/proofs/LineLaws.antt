@@ -28,14 +28,17 @@ use Rattle.relocate_prophets.specs.Walk.{linesFrom, lineFrom, labelsStar
 
 -- ---- the lines from a place on
 
+-- an empty text has no line
 none-left : withoutLastEmpty (parts isFeed []) ≡ []
 unfolding withoutLastEmpty parts
 none-left = refl
 
+-- a line that a line feed ended stays
 ended-line : (l t : List ℕ) → withoutLastEmpty (l ∷ parts isFeed t) ≡ l ∷ withoutLastEmpty (parts isFeed t)
 unfolding withoutLastEmpty
 ended-line l t = let q = parts-some isFeed t in rw (q .2)
 
+-- so does the last one, where it is not empty
 last-line : (l : List ℕ) → 0 < length l → withoutLastEmpty (l ∷ []) ≡ l ∷ []
 unfolding withoutLastEmpty
 last-line [] h = absurd (omega arith)
@@ -78,12 +81,15 @@ unfolding lineNext scan
 line-past list i h = rw (drop-of-length-le list h) (ap (λ (k : ℕ). record { length = 0; next = k }) (omega arith))
 
 module _ (list : List ℕ) (i n : ℕ) (e : n ≡ scan (holds (IsNot 10)) (take (length list - i) (drop i list))) where
+  -- the line's length by the scan
   feed-at : n ≡ scan notFeed (drop i list)
   feed-at = e ∙ ap (scan notFeed) (part-from i list)
 
+  -- it ends within the list
   feed-within : i < length list → i + n ≤ length list
   feed-within h = let w = scan-le notFeed (drop i list) in let k = length-drop i list in let f = feed-at in omega arith
 
+  -- so its end and the next line's start fit a usize
   pub end-fits : i < length list → length list < 2 ^ 64 → Fits w64 (i + n)
   end-fits h f = let w = feed-within h in omega arith
 
@@ -125,6 +131,7 @@ module _ (list : List ℕ) where
   start-empty h k = rw (le-ltb 16384 (length list) h, eq-eqb (length list) 0 k)
 
   module _ (line : Line) (e : line ≡ lineFrom list 0) where
+    -- the first line's length by the scan
     first-length : line .length ≡ scan notFeed list
     first-length = ap (λ (x : Line). x .length) e
 
@@ -136,6 +143,7 @@ module _ (list : List ℕ) where
         sym (length-take-le (line .length) list (omega arith))
 
     module _ (r : Bool) (f : r ≡ same (take (line .length) list) (bytes "label")) (h : length list ≤ 16384) (k : length list ≡ 0 → ⊥) where
+      -- what was compared is the first line
       first-told : same (take (scan notFeed list) list) (bytes "label") ≡ r
       first-told = sym (f ∙ ap (λ (n : ℕ). same (take n list) (bytes "label")) first-length)
 
@@ -158,18 +166,22 @@ abbrev pub labelsFound : List ℕ → PlaceFound → Answer (List (List ℕ))
 labelsFound list (At i) = ok (linesFrom list i)
 labelsFound list Nothing = refused 8 0
 
+-- the labels behind a head
 head-is : (l : List ℕ) (ls : List (List ℕ)) → labelsAfterHead (l ∷ ls) ≡ cond (same l (bytes "label")) (ok ls) (refused 8 0)
 unfolding labelsAfterHead
 head-is l ls = refl
 
+-- a test tells both where they start and what they are
 found-or-not : (list : List ℕ) (j : ℕ) (t : Bool) → cond t (ok (linesFrom list j)) (refused 8 0) ≡ labelsFound list (cond t (At j) Nothing)
 found-or-not list j true = refl
 found-or-not list j false = refl
 
+-- an empty list names none
 no-head : (list : List ℕ) → length list ≡ 0 → labelsAfterHead (linesFrom list 0) ≡ ok (linesFrom list 0)
 unfolding labelsAfterHead
 no-head list h = rw (lines-end list 0 (omega arith))
 
+-- any other names those behind its first line
 with-head : (list : List ℕ) → (length list ≡ 0 → ⊥)
     → labelsAfterHead (linesFrom list 0) ≡ labelsFound list (cond (same (take (scan notFeed list) list) (bytes "label")) (At (nextLine list 0)) Nothing)
 with-head list h =

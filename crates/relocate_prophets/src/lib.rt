@@ -136,15 +136,15 @@ fn put_hosts(
     requires { ⌜ length (linesFrom (now prophets) start) ≤ length (now hosts) ⌝ }
     ensures { λ _. ⌜ now (hosts .exit) ≡ sets (now (hosts .entry)) 0 (hostsIn (now (source .entry)) (entriesOf (now (kinds .entry)) (now (mapped .entry)) (now (starts .entry)) (now (lengths .entry)) (now (addresses .entry))) (linesFrom (now (prophets .entry)) start)) ⌝ }
 {
-    let mut index: usize = 0;
+    let mut written: usize = 0;
     let mut at = start;
     while at < prophets.len() {
         let line = line_at(prophets, at);
         let end = at + line.length;
         let label = &prophets[at..end];
         let found = held_address(source, kinds, mapped, starts, lengths, addresses, 2, label);
-        hosts[index] = host_in(found);
-        index += 1;
+        hosts[written] = host_in(found);
+        written += 1;
         at = line.next;
     }
 }

@@ -1,4 +1,4 @@
-use Rattle.asm_rows.proofs.RowLaws.{code-counts, row-laws}
+use Rattle.asm_rows.proofs.RowLaws.{code-fits, code-counts, row-laws}
 use borrow.Author.Needs.{needs}
 use Rattle.asm_rows.proofs.row_at.Statement.{statement}
 use Rattle.asm_rows.proofs.row_at.Tie as tie
@@ -38,12 +38,14 @@ scan-requires-2 : tie.Need-scan-requires-2
 scan-requires-2 c κs = search needs
 
 add-end : tie.Need-add-end
-add-end c = search row-laws
+add-end c =
+    let scanned = c .before .before in
+    code-fits _ _ (scanned .scan .result) (c .scan2 .result) _ (scanned .scan .ensures) (c .scan2 .ensures) (search needs) (search needs)
 
 slice-aggregate-line-read : tie.Need-slice-aggregate-line-read
 slice-aggregate-line-read c =
     let scanned = c .before .before .before in
-    code-counts _ _ (scanned .scan .result) (c .before .scan2 .result) (scanned .scan .ensures) (c .before .scan2 .ensures) (search needs)
+    code-counts _ _ (scanned .scan .result) (c .before .scan2 .result) _ (scanned .scan .ensures) (c .before .scan2 .ensures) (search needs)
 
 line-read-requires : tie.Need-line-read-requires
 line-read-requires c κs = search needs

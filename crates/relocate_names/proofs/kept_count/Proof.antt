@@ -8,7 +8,7 @@ use Rattle.relocate_names.proofs.kept_count.Statement.{statement}
 use Rattle.relocate_names.proofs.kept_count.Tie as tie
 
 abbrev Inv-loop : tie.InvT-loop
-Inv-loop hosts count₀ i₀ count i = (i ≤ length hosts) × (count ≤ i) × (keptCount hosts ≡ count + length (keptFrom i (drop i hosts)))
+Inv-loop hosts count₀ i₀ count i = (keptCount hosts ≡ count + length (keptFrom i (drop i hosts))) × (count ≤ i) × (i ≤ length hosts)
 
 abbrev μ-loop : tie.MeasureT-loop
 μ-loop hosts count₀ i₀ count i = length hosts - i

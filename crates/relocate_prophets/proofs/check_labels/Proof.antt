@@ -9,7 +9,7 @@ use Rattle.relocate_prophets.proofs.check_labels.Statement.{statement}
 use Rattle.relocate_prophets.proofs.check_labels.Tie as tie
 
 abbrev Inv-loop : tie.InvT-loop
-Inv-loop source prophets start kinds mapped starts lengths addresses index₀ at₀ index at = (index ≤ at) × (hostCount (heldHostsFrom source (entriesOf kinds mapped starts lengths addresses) 0 (linesFrom prophets start)) ≡ counted index (heldHostsFrom source (entriesOf kinds mapped starts lengths addresses) index (linesFrom prophets at)))
+Inv-loop source prophets start kinds mapped starts lengths addresses index₀ at₀ index at = (hostCount (heldHostsFrom source (entriesOf kinds mapped starts lengths addresses) 0 (linesFrom prophets start)) ≡ counted index (heldHostsFrom source (entriesOf kinds mapped starts lengths addresses) index (linesFrom prophets at))) × (index ≤ at)
 
 abbrev μ-loop : tie.MeasureT-loop
 μ-loop source prophets start kinds mapped starts lengths addresses index₀ at₀ index at = length prophets - at

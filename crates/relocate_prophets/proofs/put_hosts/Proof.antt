@@ -10,10 +10,10 @@ use Rattle.relocate_prophets.proofs.put_hosts.Statement.{statement}
 use Rattle.relocate_prophets.proofs.put_hosts.Tie as tie
 
 abbrev Inv-loop : tie.InvT-loop
-Inv-loop source prophets start kinds mapped starts lengths addresses hosts₀ index₀ at₀ hosts index at = (index ≤ at) × (length hosts ≡ length hosts₀) × (index + length (linesFrom prophets at) ≤ length hosts) × (sets hosts₀ 0 (hostsIn source (entriesOf kinds mapped starts lengths addresses) (linesFrom prophets start)) ≡ sets hosts index (hostsIn source (entriesOf kinds mapped starts lengths addresses) (linesFrom prophets at)))
+Inv-loop source prophets start kinds mapped starts lengths addresses hosts₀ written₀ at₀ hosts written at = (sets hosts₀ 0 (hostsIn source (entriesOf kinds mapped starts lengths addresses) (linesFrom prophets start)) ≡ sets hosts written (hostsIn source (entriesOf kinds mapped starts lengths addresses) (linesFrom prophets at))) × (written ≤ at) × (length hosts ≡ length hosts₀) × (written + length (linesFrom prophets at) ≤ length hosts)
 
 abbrev μ-loop : tie.MeasureT-loop
-μ-loop source prophets start kinds mapped starts lengths addresses hosts₀ index₀ at₀ hosts index at = length prophets - at
+μ-loop source prophets start kinds mapped starts lengths addresses hosts₀ written₀ at₀ hosts written at = length prophets - at
 
 loop-holds : tie.Need-loop-holds Inv-loop μ-loop
 loop-holds c = (search put-laws, search put-laws, search put-laws, search put-laws)
@@ -45,8 +45,8 @@ mul-hosts c = search put-laws
 slice-write-hosts : tie.Need-slice-write-hosts Inv-loop μ-loop
 slice-write-hosts c = search put-laws
 
-add-index : tie.Need-add-index Inv-loop μ-loop
-add-index c = search put-laws
+add-written : tie.Need-add-written Inv-loop μ-loop
+add-written c = search put-laws
 
 loop-less : tie.Need-loop-less Inv-loop μ-loop
 loop-less c = search put-laws
@@ -76,7 +76,7 @@ put-hosts-spec =
     host-in-requires
     mul-hosts
     slice-write-hosts
-    add-index
+    add-written
     loop-less
     loop-again
     same-length

@@ -1,0 +1,4 @@
+pub mod Laws
+pub mod EntryLaws
+pub mod FillLaws
+pub mod TableLaws
