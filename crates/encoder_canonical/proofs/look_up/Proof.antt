@@ -1,0 +1,42 @@
+-- `encoder_canonical::look_up` meets its contract.
+use Rattle.encoder_canonical.proofs.Laws.{number-laws}
+use borrow.Author.Needs.{needs}
+use Rattle.encoder_canonical.proofs.look_up.Statement.{statement}
+use Rattle.encoder_canonical.proofs.look_up.Tie as tie
+
+new-requires : tie.Need-new-requires
+new-requires c κs = search needs
+
+label-name-requires : tie.Need-label-name-requires
+label-name-requires c κs = search needs
+
+held-address-requires : tie.Need-held-address-requires
+held-address-requires c κs = search needs
+
+enum-known-found : tie.Need-enum-known-found
+enum-known-found c = search needs
+
+new-requires-2 : tie.Need-new-requires-2
+new-requires-2 c κs = search needs
+
+enum-told : tie.Need-enum-told
+enum-told c = search needs
+
+returns : tie.Need-returns
+returns c = search number-laws
+
+returns-2 : tie.Need-returns-2
+returns-2 c = search number-laws
+
+pub look-up-spec : {M : Type 1} → statement M
+look-up-spec =
+    tie.close
+    (tie.spec
+    new-requires
+    label-name-requires
+    held-address-requires
+    enum-known-found
+    new-requires-2
+    enum-told
+    returns
+    returns-2)

@@ -1,0 +1,136 @@
+-- The canonical instruction of a row, its names looked up in the label table: HeldLaws says that with the table of sorted rows this is `canonicalOf`.
+use Prim.Native.Nat.{ℕ, suc}
+use mathlib.Core.List.{List, [], _∷_}
+use Rattle.text.specs.Answer.{Answer, ok, refused, _>>=_}
+use Rattle.vm_opcodes.specs.Operations.{rowPlaces}
+use Rattle.vm_opcodes.specs.declared.OlaOpcode.{OlaOpcode}
+use Rattle.vm_opcodes.specs.declared.RowPlaces.{RowPlaces}
+use Rattle.vm_opcodes.specs.declared.RowPlaces.the-variants.{DstOp0Op1, DstOp1, DstMemory, MemoryDst, Op0Op1, Op1, Bare}
+use Rattle.vm_operands.specs.declared.OlaOperand.{OlaOperand}
+use Rattle.vm_operands.specs.declared.OlaOperand.the-variants.{Empty as NoContent, ImmediateOperand as ANumber, RegisterOperand as ARegister, RegisterWithFactor as AFactor}
+use Rattle.asm.specs.Parts.{nameAt}
+use Rattle.asm.specs.declared.OlaAsmOperand.{OlaAsmOperand}
+use Rattle.asm.specs.declared.OlaAsmOperand.the-variants.{Empty, ImmediateOperand, RegisterOperand, RegisterWithOffset, RegisterWithFactoredRegOffset, SpecialReg, Label, Identifier}
+use Rattle.asm.specs.declared.OlaAsmInstruction.{OlaAsmInstruction}
+use Rattle.asm.specs.declared.AsmRow.{AsmRow}
+use Rattle.asm.specs.declared.AsmRow.the-variants.{Instruction, LabelCall, LabelJmp, LabelProphet}
+use Rattle.asm.specs.declared.LineRead.{LineRead}
+use Rattle.asm.specs.declared.LineRead.the-variants.{Blank, Row, Unreadable}
+use Rattle.relocate.specs.Labels.{callKind, jmpKind}
+use Rattle.relocate.specs.Columns.{heldAddress}
+use Rattle.relocate.specs.Layout.{sortedRowAt}
+use Rattle.relocate.specs.declared.LabelEntry.{LabelEntry}
+use Rattle.relocate.specs.declared.AddressFound.{AddressFound}
+use Rattle.relocate.specs.declared.AddressFound.the-variants.{At, Nothing}
+use Rattle.program.specs.Instructions.{made, aNumber}
+use Rattle.program.specs.declared.BinaryInstruction.{BinaryInstruction}
+use Rattle.encoder_canonical.specs.declared.Resolved.{Resolved}
+use Rattle.encoder_canonical.specs.declared.Resolved.the-variants.{Is, Unknown}
+use Rattle.encoder_canonical.specs.declared.Canonical.{Canonical}
+use Rattle.encoder_canonical.specs.declared.Canonical.the-variants.{Is as Made, Unknown as NameUnknown, Misused}
+use Rattle.encoder_canonical.specs.declared.CanonicalLine.{CanonicalLine}
+use Rattle.encoder_canonical.specs.declared.CanonicalLine.the-variants.{Skip, Is as MadeLine, Unknown as UnknownLine, Misused as MisusedLine}
+use Rattle.encoder_canonical.specs.declared.CanonicalAt.{CanonicalAt}
+
+-- ---- one place
+
+-- "What is looked up becomes a number, the address of the row that holds"
+abbrev pub heldNumber : AddressFound → Resolved
+heldNumber (At a) = Is (aNumber (a .0))
+heldNumber Nothing = Unknown
+
+-- a place of any operation but mload and mstore: "pc, psp and brackets outside mload and mstore become empty; Label operands look only
+-- at `.LBL` rows, names only at call rows"
+abbrev pub heldPlain : List ℕ → List LabelEntry → OlaAsmOperand → Resolved
+heldPlain s es Empty = Is NoContent
+heldPlain s es (ImmediateOperand v) = Is (ANumber v)
+heldPlain s es (RegisterOperand r) = Is (ARegister r)
+heldPlain s es (RegisterWithOffset r v) = Is NoContent
+heldPlain s es (RegisterWithFactoredRegOffset r t v) = Is NoContent
+heldPlain s es (SpecialReg t) = Is NoContent
+heldPlain s es (Label start n) = heldNumber (heldAddress s jmpKind (nameAt s start n) es)
+heldPlain s es (Identifier start n) = heldNumber (heldAddress s callKind (nameAt s start n) es)
+
+-- ---- one row
+
+-- the three places of a row together; a name that is unknown makes the row unknown
+abbrev pub together : OlaOpcode → Resolved → Resolved → Resolved → Canonical
+together o (Is op0) (Is op1) (Is dst) = Made (made o op0 op1 dst)
+together o (Is op0) (Is op1) Unknown = NameUnknown
+together o (Is op0) Unknown dst = NameUnknown
+together o Unknown op1 dst = NameUnknown
+
+unfoldable pub heldGeneral : List ℕ → List LabelEntry → OlaAsmInstruction → Canonical
+heldGeneral s es i = together (i .opcode) (heldPlain s es (i .op0)) (heldPlain s es (i .op1)) (heldPlain s es (i .dst))
+
+-- "For mload and mstore op0 is the anchor, op1 the offset number or register with factor, dst the value register"
+abbrev pub heldAnchored : OlaOpcode → OlaAsmOperand → OlaOperand → Canonical
+heldAnchored o Empty value = Misused
+heldAnchored o (ImmediateOperand v) value = Misused
+heldAnchored o (RegisterOperand r) value = Misused
+heldAnchored o (RegisterWithOffset r v) value = Made (made o (ARegister r) (ANumber v) value)
+heldAnchored o (RegisterWithFactoredRegOffset r t v) value = Made (made o (ARegister r) (AFactor t v) value)
+heldAnchored o (SpecialReg t) value = Misused
+heldAnchored o (Label start n) value = Misused
+heldAnchored o (Identifier start n) value = Misused
+
+-- "an mload or mstore whose value is no plain register or whose memory operand is not bracketed" is misused
+unfoldable pub heldMemory : OlaOpcode → OlaAsmOperand → OlaAsmOperand → Canonical
+heldMemory o bracketed Empty = Misused
+heldMemory o bracketed (ImmediateOperand v) = Misused
+heldMemory o bracketed (RegisterOperand r) = heldAnchored o bracketed (ARegister r)
+heldMemory o bracketed (RegisterWithOffset r v) = Misused
+heldMemory o bracketed (RegisterWithFactoredRegOffset r t v) = Misused
+heldMemory o bracketed (SpecialReg t) = Misused
+heldMemory o bracketed (Label start n) = Misused
+heldMemory o bracketed (Identifier start n) = Misused
+
+-- "mload and mstore look nothing up": mload's memory operand stands in op1 of the row, mstore's in op0
+unfoldable pub heldBy : RowPlaces → List ℕ → List LabelEntry → OlaAsmInstruction → Canonical
+heldBy DstOp0Op1 s es i = heldGeneral s es i
+heldBy DstOp1 s es i = heldGeneral s es i
+heldBy DstMemory s es i = heldMemory (i .opcode) (i .op1) (i .dst)
+heldBy MemoryDst s es i = heldMemory (i .opcode) (i .op0) (i .op1)
+heldBy Op0Op1 s es i = heldGeneral s es i
+heldBy Op1 s es i = heldGeneral s es i
+heldBy Bare s es i = heldGeneral s es i
+
+-- the canonical instruction of an instruction row
+abbrev pub heldCanonical : List ℕ → List LabelEntry → OlaAsmInstruction → Canonical
+heldCanonical s es i = heldBy (rowPlaces (i .opcode)) s es i
+
+-- ---- the rows of a source
+
+-- 10 or 11, at instruction k
+abbrev pub canonicalNumbered : ℕ → Canonical → Answer BinaryInstruction
+canonicalNumbered k (Made b) = ok b
+canonicalNumbered k NameUnknown = refused 10 k
+canonicalNumbered k Misused = refused 11 k
+
+-- 10 or 11, "whichever instruction comes first", where k instructions stand ahead
+unfoldable pub heldProgram : List ℕ → List LabelEntry → ℕ → List OlaAsmInstruction → Answer (List BinaryInstruction)
+heldProgram s es k [] = ok []
+heldProgram s es k (i ∷ is) = canonicalNumbered k (heldCanonical s es i) >>= λ b. heldProgram s es (suc k) is >>= λ bs. ok (b ∷ bs)
+
+-- ---- one line of the sorted source
+
+abbrev pub ofCanonical : Canonical → CanonicalLine
+ofCanonical (Made b) = MadeLine b
+ofCanonical NameUnknown = UnknownLine
+ofCanonical Misused = MisusedLine
+
+abbrev pub canonicalRow : List ℕ → List LabelEntry → AsmRow → CanonicalLine
+canonicalRow s es (Instruction i) = ofCanonical (heldCanonical s es i)
+canonicalRow s es (LabelCall start n) = Skip
+canonicalRow s es (LabelJmp start n) = Skip
+canonicalRow s es (LabelProphet start n) = Skip
+
+-- the canonical instruction of a line that is an instruction row
+abbrev pub canonicalLine : List ℕ → List LabelEntry → LineRead → CanonicalLine
+canonicalLine s es Blank = Skip
+canonicalLine s es (Row r) = canonicalRow s es r
+canonicalLine s es Unreadable = Skip
+
+-- the line at place v of the sorted source, and the place of the line after it
+abbrev pub canonicalAt : List ℕ → List LabelEntry → ℕ → ℕ → ℕ → CanonicalAt
+canonicalAt s es start end v = let r = sortedRowAt s start end v in record { found = canonicalLine s es (r .read); next = r .next }

@@ -1,0 +1,292 @@
+// The canonical instruction of a row, its names looked up in the label table: assembler/src/encoder.rs. The table's five columns are lent one
+// by one.
+use asm::AsmRow;
+use asm::LineRead;
+use asm::OlaAsmInstruction;
+use asm::OlaAsmOperand;
+use program::BinaryInstruction;
+use relocate::AddressFound;
+use relocate::LabelEntry;
+use relocate::WordAddress;
+use vm_opcodes::OlaOpcode;
+use vm_opcodes::RowPlaces;
+use vm_operands::ImmediateValue;
+use vm_operands::OlaOperand;
+ghost use mathlib.Core.Path.{_≡_};
+ghost use Rattle.asm.specs.Parts.{nameAt};
+ghost use Rattle.relocate.specs.Columns.{entriesOf, heldAddress};
+ghost use Rattle.encoder_canonical.specs.Held.{heldNumber, heldPlain, heldGeneral, heldAnchored, heldMemory, heldCanonical, ofCanonical, canonicalRow, canonicalLine, canonicalAt};
+
+// What a place of a row becomes, or that no mapped row holds the name in it.
+pub enum Resolved {
+    Is(OlaOperand),
+    Unknown,
+}
+
+// What an instruction row becomes.
+pub enum Canonical {
+    Is(BinaryInstruction),
+    // 10: a name or label that no mapped row of its kind holds.
+    Unknown,
+    // 11: an mload or mstore whose value is no plain register or whose memory operand is not bracketed.
+    Misused,
+}
+
+// The same of a line, Skip where it is no instruction row.
+pub enum CanonicalLine {
+    Skip,
+    Is(BinaryInstruction),
+    Unknown,
+    Misused,
+}
+
+// What was found at a line, and where the line after it starts.
+pub struct CanonicalAt {
+    pub found: CanonicalLine,
+    pub next: usize,
+}
+
+// The number of the row that holds the name that stands at a place of the source.
+fn look_up(
+    source: &[u8],
+    kinds: &[u8],
+    mapped: &[bool],
+    starts: &[usize],
+    lengths: &[usize],
+    addresses: &[u64],
+    kind: u8,
+    start: usize,
+    length: usize,
+) -> Resolved
+    ensures { λ r. ⌜ r ≡ heldNumber (heldAddress (now (source .entry)) kind (nameAt (now (source .entry)) start length) (entriesOf (now (kinds .entry)) (now (mapped .entry)) (now (starts .entry)) (now (lengths .entry)) (now (addresses .entry)))) ⌝ }
+{
+    let place = LabelEntry {
+        kind,
+        mapped: true,
+        start,
+        length,
+        address: WordAddress::new(0),
+    };
+    let name = relocate_names::label_name(source, place);
+    let found = relocate_names::held_address(
+        source,
+        kinds,
+        mapped,
+        starts,
+        lengths,
+        addresses,
+        kind,
+        name,
+    );
+    match found {
+        AddressFound::At(address) => Resolved::Is(OlaOperand::ImmediateOperand {
+            value: ImmediateValue::new(address.0),
+        }),
+        AddressFound::Nothing => Resolved::Unknown,
+    }
+}
+
+// A place of any operation but mload and mstore: a label is looked up among `.LBL` rows, a name among call rows.
+fn plain(
+    source: &[u8],
+    kinds: &[u8],
+    mapped: &[bool],
+    starts: &[usize],
+    lengths: &[usize],
+    addresses: &[u64],
+    operand: OlaAsmOperand,
+) -> Resolved
+    ensures { λ r. ⌜ r ≡ heldPlain (now (source .entry)) (entriesOf (now (kinds .entry)) (now (mapped .entry)) (now (starts .entry)) (now (lengths .entry)) (now (addresses .entry))) operand ⌝ }
+{
+    match operand {
+        OlaAsmOperand::ImmediateOperand { value } => {
+            Resolved::Is(OlaOperand::ImmediateOperand { value })
+        }
+        OlaAsmOperand::RegisterOperand { register } => {
+            Resolved::Is(OlaOperand::RegisterOperand { register })
+        }
+        OlaAsmOperand::Label {
+            start: at,
+            length: n,
+        } => look_up(source, kinds, mapped, starts, lengths, addresses, 1, at, n),
+        OlaAsmOperand::Identifier {
+            start: at,
+            length: n,
+        } => look_up(source, kinds, mapped, starts, lengths, addresses, 0, at, n),
+        _ => Resolved::Is(OlaOperand::Empty),
+    }
+}
+
+// Any operation but mload and mstore: each place by itself.
+fn general(
+    source: &[u8],
+    kinds: &[u8],
+    mapped: &[bool],
+    starts: &[usize],
+    lengths: &[usize],
+    addresses: &[u64],
+    instruction: OlaAsmInstruction,
+) -> Canonical
+    ensures { λ r. ⌜ r ≡ heldGeneral (now (source .entry)) (entriesOf (now (kinds .entry)) (now (mapped .entry)) (now (starts .entry)) (now (lengths .entry)) (now (addresses .entry))) instruction ⌝ }
+{
+    let a = instruction.op0;
+    let Resolved::Is(op0) = plain(source, kinds, mapped, starts, lengths, addresses, a) else {
+        return Canonical::Unknown;
+    };
+    let b = instruction.op1;
+    let Resolved::Is(op1) = plain(source, kinds, mapped, starts, lengths, addresses, b) else {
+        return Canonical::Unknown;
+    };
+    let d = instruction.dst;
+    let Resolved::Is(dst) = plain(source, kinds, mapped, starts, lengths, addresses, d) else {
+        return Canonical::Unknown;
+    };
+    let opcode = instruction.opcode;
+    Canonical::Is(BinaryInstruction::new(opcode, op0, op1, dst))
+}
+
+// An mload or mstore from its memory operand, which has the anchor and an offset, and its value.
+fn anchored(opcode: OlaOpcode, bracketed: OlaAsmOperand, value: OlaOperand) -> Canonical
+    ensures { λ r. ⌜ r ≡ heldAnchored opcode bracketed value ⌝ }
+{
+    match bracketed {
+        OlaAsmOperand::RegisterWithOffset { register, offset } => {
+            let op0 = OlaOperand::RegisterOperand { register };
+            let op1 = OlaOperand::ImmediateOperand { value: offset };
+            Canonical::Is(BinaryInstruction::new(opcode, op0, op1, value))
+        }
+        OlaAsmOperand::RegisterWithFactoredRegOffset {
+            register,
+            offset_register,
+            factor,
+        } => {
+            let op0 = OlaOperand::RegisterOperand { register };
+            let op1 = OlaOperand::RegisterWithFactor {
+                register: offset_register,
+                factor,
+            };
+            Canonical::Is(BinaryInstruction::new(opcode, op0, op1, value))
+        }
+        _ => Canonical::Misused,
+    }
+}
+
+// An mload or mstore, whose value is a plain register.
+fn memory(opcode: OlaOpcode, bracketed: OlaAsmOperand, value: OlaAsmOperand) -> Canonical
+    ensures { λ r. ⌜ r ≡ heldMemory opcode bracketed value ⌝ }
+{
+    match value {
+        OlaAsmOperand::RegisterOperand { register } => {
+            anchored(opcode, bracketed, OlaOperand::RegisterOperand { register })
+        }
+        _ => Canonical::Misused,
+    }
+}
+
+// The canonical instruction of an instruction row. mload's memory operand stands in op1 of the row, mstore's in op0 with the value in op1.
+pub fn canonical_of(
+    source: &[u8],
+    kinds: &[u8],
+    mapped: &[bool],
+    starts: &[usize],
+    lengths: &[usize],
+    addresses: &[u64],
+    instruction: OlaAsmInstruction,
+) -> Canonical
+    ensures { λ r. ⌜ r ≡ heldCanonical (now (source .entry)) (entriesOf (now (kinds .entry)) (now (mapped .entry)) (now (starts .entry)) (now (lengths .entry)) (now (addresses .entry))) instruction ⌝ }
+{
+    let opcode = instruction.opcode;
+    let op0 = instruction.op0;
+    let op1 = instruction.op1;
+    let dst = instruction.dst;
+    match vm_tables::row_places(opcode) {
+        RowPlaces::DstMemory => memory(opcode, op1, dst),
+        RowPlaces::MemoryDst => memory(opcode, op0, op1),
+        _ => general(
+            source,
+            kinds,
+            mapped,
+            starts,
+            lengths,
+            addresses,
+            instruction,
+        ),
+    }
+}
+
+// What an instruction row becomes, as the answer for its line.
+fn of_canonical(found: Canonical) -> CanonicalLine
+    ensures { λ r. ⌜ r ≡ ofCanonical found ⌝ }
+{
+    match found {
+        Canonical::Is(instruction) => CanonicalLine::Is(instruction),
+        Canonical::Unknown => CanonicalLine::Unknown,
+        Canonical::Misused => CanonicalLine::Misused,
+    }
+}
+
+// A row, Skip where it is a label row.
+fn canonical_row(
+    source: &[u8],
+    kinds: &[u8],
+    mapped: &[bool],
+    starts: &[usize],
+    lengths: &[usize],
+    addresses: &[u64],
+    row: AsmRow,
+) -> CanonicalLine
+    ensures { λ r. ⌜ r ≡ canonicalRow (now (source .entry)) (entriesOf (now (kinds .entry)) (now (mapped .entry)) (now (starts .entry)) (now (lengths .entry)) (now (addresses .entry))) row ⌝ }
+{
+    match row {
+        AsmRow::Instruction(instruction) => of_canonical(canonical_of(
+            source,
+            kinds,
+            mapped,
+            starts,
+            lengths,
+            addresses,
+            instruction,
+        )),
+        _ => CanonicalLine::Skip,
+    }
+}
+
+// A line, Skip where it is no instruction row.
+fn canonical_line(
+    source: &[u8],
+    kinds: &[u8],
+    mapped: &[bool],
+    starts: &[usize],
+    lengths: &[usize],
+    addresses: &[u64],
+    read: LineRead,
+) -> CanonicalLine
+    ensures { λ r. ⌜ r ≡ canonicalLine (now (source .entry)) (entriesOf (now (kinds .entry)) (now (mapped .entry)) (now (starts .entry)) (now (lengths .entry)) (now (addresses .entry))) read ⌝ }
+{
+    match read {
+        LineRead::Row(row) => canonical_row(source, kinds, mapped, starts, lengths, addresses, row),
+        _ => CanonicalLine::Skip,
+    }
+}
+
+// The line at a place of the sorted source, where main's scope runs from start to end, and the place of the line after it.
+pub fn canonical_at(
+    source: &[u8],
+    kinds: &[u8],
+    mapped: &[bool],
+    starts: &[usize],
+    lengths: &[usize],
+    addresses: &[u64],
+    start: usize,
+    end: usize,
+    at: usize,
+) -> CanonicalAt
+    ensures { λ r. ⌜ r ≡ canonicalAt (now (source .entry)) (entriesOf (now (kinds .entry)) (now (mapped .entry)) (now (starts .entry)) (now (lengths .entry)) (now (addresses .entry))) start end at ⌝ }
+{
+    let row = relocate_walk::sorted_row(source, start, end, at);
+    let read = row.read;
+    CanonicalAt {
+        found: canonical_line(source, kinds, mapped, starts, lengths, addresses, read),
+        next: row.next,
+    }
+}

@@ -1,0 +1,42 @@
+-- `write_line` meets its contract.
+use Rattle.program_bytecode.proofs.Laws.{write-line-laws}
+use borrow.Author.Needs.{needs}
+use Rattle.program_bytecode.proofs.write_line.Statement.{statement}
+use Rattle.program_bytecode.proofs.write_line.Tie as tie
+
+put-line-requires : tie.Need-put-line-requires
+put-line-requires c κs = search needs
+
+enum-known-put : tie.Need-enum-known-put
+enum-known-put c = search needs
+
+add-result : tie.Need-add-result
+add-result c = search write-line-laws
+
+enum-told : tie.Need-enum-told
+enum-told c = search needs
+
+same-length : tie.Need-same-length
+same-length c = search needs
+
+returns : tie.Need-returns
+returns c = search write-line-laws
+
+same-length-2 : tie.Need-same-length-2
+same-length-2 c = search needs
+
+returns-2 : tie.Need-returns-2
+returns-2 c = absurd (search write-line-laws)
+
+pub write-line-spec : {M : Type 1} → statement M
+write-line-spec =
+    tie.close
+    (tie.spec
+    put-line-requires
+    enum-known-put
+    add-result
+    enum-told
+    same-length
+    returns
+    same-length-2
+    returns-2)
