@@ -1,19 +1,19 @@
 -- Laws of the writers of lines and words, in the shapes in which the functions ask for them.
-use Prim.Native.Nat.{ℕ, suc, _+_, _-_, _*_, _/_, _%_, _^_, _<_, _≤_}
-use mathlib.Core.Path.{_≡_, refl, sym, ap, _∙_}
-use mathlib.Core.List.{List, [], _∷_, _++_}
-use mathlib.Core.Bool.{Bool, true, false, cond, not}
+use Prim.Native.Nat.{ℕ, suc, _+_, _-_, _^_, _<_, _≤_}
+use mathlib.Core.Path.{_≡_, sym, ap, _∙_}
+use mathlib.Core.List.{List, [], _++_}
+use mathlib.Core.Bool.{Bool, true, false, not}
 use native.Mathlib.Omega.{arith}
 use native.Mathlib.Nat.{zero-add}
 use native.Mathlib.Numerals.{add-one}
 use borrow.Author.Needs.{needs}
-use borrow.Author.Tests.{eq-eqb, ne-eqb, le-leb, lt-leb, leb-true, leb-false, lt-ltb, le-ltb}
+use borrow.Author.Tests.{ne-eqb, le-leb, lt-leb, leb-true, leb-false, lt-ltb, le-ltb}
 use lib.Dec.{eqb, leb}
-use lib.ListN.{length, getD, take, drop, set, length-append, length-set, drop-of-length-le}
+use lib.ListN.{length, getD, drop, set, length-append, length-set, drop-of-length-le}
 use lib.Seq.{sets, sets-eq}
 use mir.Val.{Fits}
 use mir.Syntax.{w64}
-use Rattle.text.specs.Answer.{Answer, ok, refused, _>>=_, _>>_, refuseIf, onOk, over}
+use Rattle.text.specs.Answer.{Answer, ok, refused, _>>=_, _>>_, refuseIf, onOk}
 use Rattle.text.proofs.Laws.{drop-next, told-not-true, told-not-false}
 use Rattle.text_write.specs.declared.Put.{Put}
 use Rattle.text_write.specs.declared.Put.the-variants.{Count, Short}
@@ -28,25 +28,31 @@ use Rattle.program_bytecode.specs.Written.{writtenNumbered, countOf}
 use Rattle.program_bytecode.specs.declared.Written.the-variants.{Is, Refused}
 use Rattle.program_bytecode.proofs.LeftLaws.{bytecode-left}
 
--- ---- asks_number: after a number comes a first word, after a first word what its bits say
+-- ---- asks_number
 module _ (number : Bool) (w : ℕ) where
+  -- after a number comes a first word
   pub asks-none : number ≡ true → false ≡ asksNumber number w
   asks-none e = rw e
 
+  -- after a first word what its bits say
   pub asks-second : (t : Bool) → number ≡ false → t ≡ hasSecond w → t ≡ asksNumber number w
   asks-second t e f = rw e f
 
--- ---- put_line: d is the text, and the word is a number or a first word
+-- ---- put_line: d is the text
 module _ (d : List ℕ) (at w : ℕ) (number : Bool) where
+  -- what is answered for a number
   pub number-count : (r : Put) → number ≡ true → r ≡ putCount d at (fewestText w) → r ≡ putCount d at (lineText number w)
   number-count r e h = rw e h
 
+  -- what it leaves
   pub number-into : (b : List ℕ) → number ≡ true → b ≡ putInto d at (fewestText w) → b ≡ putInto d at (lineText number w)
   number-into b e h = rw e h
 
+  -- what is answered for a first word
   pub first-count : (r : Put) → number ≡ false → r ≡ putCount d at (sixteenText w) → r ≡ putCount d at (lineText number w)
   first-count r e h = rw e h
 
+  -- what it leaves
   pub first-into : (b : List ℕ) → number ≡ false → b ≡ putInto d at (sixteenText w) → b ≡ putInto d at (lineText number w)
   first-into b e h = rw e h
 
@@ -69,20 +75,28 @@ module _ (number : Bool) (w : ℕ) (h : w < 2 ^ 64) where
   line-fits n e = omega (arith, line-most number w h)
 
 module _ (first number : Bool) (w n : ℕ) (e : n ≡ length (lineText number w)) where
+  -- the first word of all has its line
   pub first-long : first ≡ true → n ≡ length (wordText first number w)
   first-long h = rw h e
 
+  -- a later one a line feed more
   pub later-long : first ≡ false → n + 1 ≡ length (wordText first number w)
   later-long h = rw h (add-one n ∙ ap suc e)
 
 pub ruleset length-laws = (line-never-short, line-fits, first-long, later-long, count-told, needs)
 
--- ---- what is left from word i on: a word and what is left behind it, or nothing
+-- ---- what is left from word i on
 module _ (s : List ℕ) (i : ℕ) (number : Bool) where
+  -- a word, and what is left behind it
   left-next : i < length s → leftText (eqb i 0) number (drop i s) ≡ wordText (eqb i 0) number (getD s i 0) ++ leftText (eqb (i + 1) 0) (asksNumber number (getD s i 0)) (drop (i + 1) s)
   unfolding leftText
   left-next h = rw (drop-next s i h, ne-eqb (i + 1) 0 (λ e. omega arith))
 
+  -- and their lengths
+  left-long : i < length s → length (leftText (eqb i 0) number (drop i s)) ≡ length (wordText (eqb i 0) number (getD s i 0)) + length (leftText (eqb (i + 1) 0) (asksNumber number (getD s i 0)) (drop (i + 1) s))
+  left-long h = ap length (left-next h) ∙ length-append (wordText (eqb i 0) number (getD s i 0)) (leftText (eqb (i + 1) 0) (asksNumber number (getD s i 0)) (drop (i + 1) s))
+
+  -- nothing past the last
   left-none : length s ≤ i → leftText (eqb i 0) number (drop i s) ≡ []
   unfolding leftText
   left-none h = rw (drop-of-length-le s h)
@@ -94,22 +108,22 @@ module _ (s : List ℕ) (i : ℕ) (number : Bool) where
 
     -- ---- fits: n is the length of word i
     module _ (room : ℕ) (k : at ≤ room) where
+      -- all words passed: they fit
       pub all-fit : length s ≤ i → true ≡ leb (length (leftText true false s)) room
       all-fit h = sym (le-leb (length (leftText true false s)) room (let z = left-end h in omega arith))
 
       module _ (n : ℕ) (h : i < length s) (f : n ≡ length (wordText (eqb i 0) number (getD s i 0))) where
+        -- a word that does not fit: neither do all
         pub word-over : room - at < n → false ≡ leb (length (leftText true false s)) room
         word-over l =
-            let z = ap length (left-next h) in
-            let y = length-append (wordText (eqb i 0) number (getD s i 0)) (leftText (eqb (i + 1) 0) (asksNumber number (getD s i 0)) (drop (i + 1) s)) in
+            let z = left-long h in
             sym (lt-leb (length (leftText true false s)) room (omega arith))
 
     -- what is left behind word i, whose text ends at m
     pub left-more : (m : ℕ) (b : Bool) → i < length s → m ≡ at + length (wordText (eqb i 0) number (getD s i 0)) → b ≡ asksNumber number (getD s i 0)
         → length (leftText true false s) ≡ m + length (leftText (eqb (i + 1) 0) b (drop (i + 1) s))
     left-more m b h f g =
-        let z = ap length (left-next h) in
-        let y = length-append (wordText (eqb i 0) number (getD s i 0)) (leftText (eqb (i + 1) 0) (asksNumber number (getD s i 0)) (drop (i + 1) s)) in
+        let z = left-long h in
         rw g (omega arith)
 
     -- the same where n is the length of word i
@@ -120,12 +134,12 @@ module _ (s : List ℕ) (i : ℕ) (number : Bool) where
     -- word i lies within a text that has room for all
     pub word-within : (d t : List ℕ) → i < length s → length (leftText true false s) ≤ length d → length t ≡ length d → at + length (wordText (eqb i 0) number (getD s i 0)) ≤ length t
     word-within d t h l m =
-        let z = ap length (left-next h) in
-        let y = length-append (wordText (eqb i 0) number (getD s i 0)) (leftText (eqb (i + 1) 0) (asksNumber number (getD s i 0)) (drop (i + 1) s)) in
+        let z = left-long h in
         omega arith
 
   -- ---- write_words: t is the text d when the words before word i are written
   module _ (d t : List ℕ) (at : ℕ) (e : sets d 0 (leftText true false s) ≡ sets t at (leftText (eqb i 0) number (drop i s))) where
+    -- word i is written too
     pub written-more : (u : List ℕ) (m : ℕ) (b : Bool) → i < length s → u ≡ sets t at (wordText (eqb i 0) number (getD s i 0)) → m ≡ at + length (wordText (eqb i 0) number (getD s i 0))
         → b ≡ asksNumber number (getD s i 0) → sets d 0 (leftText true false s) ≡ sets u m (leftText (eqb (i + 1) 0) b (drop (i + 1) s))
     written-more u m b h f g k =
@@ -134,9 +148,11 @@ module _ (s : List ℕ) (i : ℕ) (number : Bool) where
         ∙ sets-append (wordText (eqb i 0) number (getD s i 0)) (leftText (eqb (i + 1) 0) (asksNumber number (getD s i 0)) (drop (i + 1) s)) t at
         ∙ sym (rw (f, g, k))
 
+    -- all words passed: the text is written
     pub written-end : length s ≤ i → t ≡ sets d 0 (leftText true false s)
     written-end h = sym (e ∙ ap (sets t at) (left-none h))
 
+-- before the first word all is left
 pub left-start : (s : List ℕ) → length (leftText true false s) ≡ 0 + length (leftText (eqb 0 0) false (drop 0 s))
 left-start s = sym (zero-add (length (leftText true false s)))
 
@@ -155,32 +171,38 @@ module _ (d : List ℕ) (at : ℕ) (w : List ℕ) (h : at + length w ≤ length 
     pub put-end : (n : ℕ) → r ≡ Count n → at + n ≡ at + length w
     put-end n f = ap (λ (k : ℕ). at + k) (count-told d at w r e n f)
 
+    -- it is not refused
     pub put-never-short : r ≡ Short → ⊥
     put-never-short f = never-short d at w r e h f
 
 pub ruleset write-line-laws = (put-stored, put-end, put-never-short, told-adds, needs)
 
 module _ (d : List ℕ) (at w : ℕ) (first number : Bool) (h : at + length (wordText first number w) ≤ length d) where
-  -- the first word is its line
+  -- the first word: its line has room
   pub first-within : first ≡ true → at + length (lineText number w) ≤ length d
   first-within e = rw e at h
 
+  -- it ends with it
   pub first-end : (r : ℕ) → first ≡ true → r ≡ at + length (lineText number w) → r ≡ at + length (wordText first number w)
   first-end r e f = rw e f
 
+  -- what it leaves
   pub first-stored : (b : List ℕ) → first ≡ true → b ≡ sets d at (lineText number w) → b ≡ sets d at (wordText first number w)
   first-stored b e f = rw e f
 
-  -- a later one its line behind a line feed
+  -- a later one: the line feed has room
   pub feed-within : first ≡ false → at < length d
   feed-within e = let k : at + suc (length (lineText number w)) ≤ length d = rw e at h in omega arith
 
+  -- and its line behind it
   pub later-within : first ≡ false → (at + 1) + length (lineText number w) ≤ length (set d at 10)
   later-within e = let k : at + suc (length (lineText number w)) ≤ length d = rw e at h in simp length-set (omega arith)
 
+  -- it ends with the line
   pub later-end : (r : ℕ) → first ≡ false → r ≡ (at + 1) + length (lineText number w) → r ≡ at + length (wordText first number w)
   later-end r e f = rw e (omega arith)
 
+  -- what it leaves
   pub later-stored : (b : List ℕ) → first ≡ false → b ≡ sets (set d at 10) (at + 1) (lineText number w) → b ≡ sets d at (wordText first number w)
   later-stored b e f = rw e (f ∙ ap (λ (k : ℕ). sets (set d at 10) k (lineText number w)) (add-one at))
 
@@ -204,38 +226,48 @@ module _ (d w : List ℕ) where
   unfolding onOk
   stored-left h = sets-eq w d 0 (omega arith) ∙ ap (λ (k : ℕ). w ++ drop k d) (zero-add (length w)) ∙ sym (ap (λ (a : Answer (List ℕ)). textLeft a d) (within-fits (length d) w h))
 
+  -- a text that is too short is left as it was
   pub kept-left : length d < length w → d ≡ textLeft (within (length d) w) d
   unfolding onOk
   kept-left h = sym (ap (λ (a : Answer (List ℕ)). textLeft a d) (within-short (length d) w h))
 
+  -- the count of what is written
   pub count-left : length w ≤ length d → ok (length w) ≡ countOf (within (length d) w)
   unfolding _>>=_
   count-left h = sym (ap countOf (within-fits (length d) w h))
 
+  -- 23
   pub short-left : length d < length w → refused 23 0 ≡ countOf (within (length d) w)
   unfolding _>>=_
   short-left h = sym (ap countOf (within-short (length d) w h))
 
 -- ---- write_bytecode: t is whether the text of the words fits
 module _ (s d : List ℕ) (t : Bool) (e : t ≡ leb (length (leftText true false s)) (length d)) where
+  -- what does not fit is longer than the text
   over-long : not t ≡ true → length d < length (bytecodeOf s)
   over-long h = rw (bytecode-left s) (leb-false _ _ (told-not-true t _ e h))
 
+  -- what fits is not
   pub words-fit : not t ≡ false → length (leftText true false s) ≤ length d
   words-fit h = leb-true _ _ (told-not-false t _ e h)
 
+  -- nor is the bytecode, which is the same
   fit-long : not t ≡ false → length (bytecodeOf s) ≤ length d
   fit-long h = rw (bytecode-left s) (words-fit h)
 
+  -- 23 is answered
   pub short-answer : not t ≡ true → writtenNumbered (Refused TextTooShort) ≡ countOf (bytecodeWritten s (length d))
   short-answer h = short-left d (bytecodeOf s) (over-long h)
 
+  -- and the text left as it was
   pub short-text : not t ≡ true → d ≡ textLeft (bytecodeWritten s (length d)) d
   short-text h = kept-left d (bytecodeOf s) (over-long h)
 
+  -- the count is answered
   pub done-answer : (n : ℕ) → not t ≡ false → n ≡ length (leftText true false s) → writtenNumbered (Is n) ≡ countOf (bytecodeWritten s (length d))
   done-answer n h f = ap ok (f ∙ ap length (sym (bytecode-left s))) ∙ count-left d (bytecodeOf s) (fit-long h)
 
+  -- and the bytecode written
   pub done-text : (b : List ℕ) → not t ≡ false → b ≡ sets d 0 (leftText true false s) → b ≡ textLeft (bytecodeWritten s (length d)) d
   done-text b h f = f ∙ ap (sets d 0) (sym (bytecode-left s)) ∙ stored-left d (bytecodeOf s) (fit-long h)
 

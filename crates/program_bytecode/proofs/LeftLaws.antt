@@ -5,7 +5,7 @@ use mathlib.Core.List.{List, [], _∷_, _++_, append-nil}
 use mathlib.Core.Bool.{Bool, true, false, cond}
 use mathlib.Core.Option.{Option, none, some}
 use Rattle.text_write.specs.Digits.{fewestText, sixteenText}
-use Rattle.program.specs.Groups.{Group, grouped, hasSecond}
+use Rattle.program.specs.Groups.{grouped, hasSecond}
 use Rattle.program.specs.Bytecode.{linesOfGroups, joined, bytecodeOf}
 use Rattle.program_bytecode.specs.Left.{lineText, asksNumber, leftText}
 

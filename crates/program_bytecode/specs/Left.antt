@@ -1,7 +1,7 @@
 -- The text of what is left of words, from a word on: what a writer that goes from word to word has still to write.
 use Prim.Native.Nat.{ℕ}
 use mathlib.Core.List.{List, [], _∷_, _++_}
-use mathlib.Core.Bool.{Bool, true, false, cond}
+use mathlib.Core.Bool.{Bool, false, cond}
 use Rattle.text_write.specs.Digits.{fewestText, sixteenText}
 use Rattle.program.specs.Groups.{hasSecond}
 

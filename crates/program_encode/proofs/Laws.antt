@@ -33,42 +33,53 @@ use Rattle.program_encode.specs.declared.Encoding.the-variants.{Is, Refu
 module _ (x : OlaOperand) where
   -- ---- is_too_large: b is whether the number that x carries is below p
   module _ (v : ImmediateValue) (b : Bool) (f : b ≡ ltb (v .number) order) where
+    -- a number
     pub large-number : x ≡ ImmediateOperand v → not b ≡ isTooLarge (carried x)
     large-number e = rw (e, f)
 
+    -- an offset
     pub large-offset : (r : OlaRegister) → x ≡ RegisterWithOffset r v → not b ≡ isTooLarge (carried x)
     large-offset r e = rw (e, f)
 
+    -- a factor
     pub large-factor : (r : OlaRegister) → x ≡ RegisterWithFactor r v → not b ≡ isTooLarge (carried x)
     large-factor r e = rw (e, f)
 
   -- ---- register_bits: w is the bit of x's register
   module _ (place : Place) (r : OlaRegister) (w : ℕ) (f : w ≡ 2 ^ registerBit place r) where
+    -- a register alone
     pub bits-bare : x ≡ RegisterOperand r → w ≡ registerBits place (registerIn x)
     bits-bare e = rw (e, f)
 
+    -- one with offset
     pub bits-offset : (v : ImmediateValue) → x ≡ RegisterWithOffset r v → w ≡ registerBits place (registerIn x)
     bits-offset v e = rw (e, f)
 
+    -- one with factor
     pub bits-factor : (v : ImmediateValue) → x ≡ RegisterWithFactor r v → w ≡ registerBits place (registerIn x)
     bits-factor v e = rw (e, f)
 
-  -- ---- later_word: x carries a number
+  -- ---- later_word: the number that x carries
   module _ (w : SecondWord) (v : ImmediateValue) where
+    -- a number
     pub later-number : x ≡ ImmediateOperand v → Number (v .number) ≡ later w (carried x)
     later-number e = rw e
 
+    -- an offset
     pub later-offset : (r : OlaRegister) → x ≡ RegisterWithOffset r v → Number (v .number) ≡ later w (carried x)
     later-offset r e = rw e
 
+    -- a factor
     pub later-factor : (r : OlaRegister) → x ≡ RegisterWithFactor r v → Number (v .number) ≡ later w (carried x)
     later-factor r e = rw e
 
   -- ---- is_rejected_in_op1
   module _ (o : OlaOpcode) where
+    -- another content than a special register is not rejected
     pub rejected-other : (y : OlaOperand) → x ≡ y → rejectedInOp1 o y ≡ false → false ≡ rejectedInOp1 o x
     rejected-other y e f = sym (ap (rejectedInOp1 o) e ∙ f)
 
+    -- a special register is, outside mov
     pub rejected-special : (s : OlaSpecialRegister) (b : Bool) → x ≡ SpecialReg s → b ≡ isMov o → not b ≡ rejectedInOp1 o x
     rejected-special s b e f = rw (e, f)
 
@@ -82,30 +93,37 @@ pub ruleset later-laws = (later-number, later-offset, later-factor, needs)
 pub told-mov : (o : OlaOpcode) (n : ℕ) → n ≡ operationBit o → eqb n 27 ≡ isMov o
 told-mov o n e = rw e
 
--- ---- the words of an instruction: its bits' sums fit a word, and the last number is its second word
+-- ---- the words of an instruction
 module _ (i : BinaryInstruction) where
   module _ (a b : ℕ) (e : a ≡ registerBits Op0 (registerIn (i .op0))) (f : b ≡ registerBits Op1 (registerIn (i .op1))) where
+    -- the bits of op0 and op1 fit a word
     pub two-fit : Fits w64 (a + b)
     two-fit = omega (arith, first-lt i)
 
     module _ (d : ℕ) (g : d ≡ registerBits Dst (registerIn (i .dst))) where
+      -- with those of dst
       pub three-fit : Fits w64 (a + b + d)
       three-fit = omega (arith, first-lt i)
 
       module _ (n : ℕ) (h : n ≡ numberBit (i .op1)) where
+        -- with the bit of a number
         pub four-fit : Fits w64 (a + b + d + n)
         four-fit = omega (arith, first-lt i)
 
+        -- with the operation's
         pub five-fit : (p : ℕ) → p ≡ 2 ^ operationBit (i .opcode) → Fits w64 (a + b + d + n + p)
         five-fit p k = omega (arith, first-lt i)
 
+  -- the last number of op0, op1, dst is the second word
   pub second-last : (a b r : SecondWord) → a ≡ later Nothing (carried (i .op0)) → b ≡ later a (carried (i .op1)) → r ≡ later b (carried (i .dst)) → r ≡ secondOf (secondWord i)
   second-last a b r e f g = g ∙ ap (λ (w : SecondWord). later w (carried (i .dst))) (f ∙ ap (λ (w : SecondWord). later w (carried (i .op1))) (e ∙ first (carried (i .op0))) ∙ last (carried (i .op0)) (carried (i .op1))) ∙ last (lastOf (carried (i .op0)) (carried (i .op1))) (carried (i .dst))
     where
+      -- before op0 there is none
       first : (u : Option ℕ) → later Nothing u ≡ secondOf u
       first none = refl
       first (some n) = refl
 
+      -- a later number takes the place of an earlier one
       last : (u v : Option ℕ) → later (secondOf u) v ≡ secondOf (lastOf u v)
       last u none = refl
       last u (some n) = refl

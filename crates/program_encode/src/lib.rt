@@ -116,6 +116,7 @@ pub fn second_word(instruction: BinaryInstruction) -> SecondWord
     later_word(second, dst)
 }
 
+// Whether the operation is mov, the one with bit 27.
 fn is_mov(opcode: OlaOpcode) -> bool
     ensures { λ r. ⌜ r ≡ isMov opcode ⌝ }
 {

@@ -1,0 +1,19 @@
+-- The words of a source's instruction rows, names looked up in the label table.
+use Prim.Native.Nat.{ℕ}
+use mathlib.Core.List.{List, [], _∷_, _++_}
+use Rattle.asm.specs.declared.OlaAsmInstruction.{OlaAsmInstruction}
+use Rattle.relocate.specs.declared.LabelEntry.{LabelEntry}
+use Rattle.program.specs.Words.{wordsOf}
+use Rattle.encoder_canonical.specs.Held.{heldCanonical}
+use Rattle.encoder_canonical.specs.declared.Canonical.{Canonical}
+use Rattle.encoder_canonical.specs.declared.Canonical.the-variants.{Is as Made, Unknown, Misused}
+
+abbrev pub wordsIf : Canonical → List ℕ
+wordsIf (Made b) = wordsOf b
+wordsIf Unknown = []
+wordsIf Misused = []
+
+-- the words of the rows, in order
+unfoldable pub heldWords : List ℕ → List LabelEntry → List OlaAsmInstruction → List ℕ
+heldWords s es [] = []
+heldWords s es (i ∷ is) = wordsIf (heldCanonical s es i) ++ heldWords s es is

@@ -1,0 +1,66 @@
+-- A program whose names are all known: the first misplaced number found by the walk is the definition's.
+use Prim.Native.Nat.{ℕ, suc}
+use mathlib.Core.Path.{_≡_, refl, sym, ap, _∙_}
+use mathlib.Core.List.{List, [], _∷_}
+use mathlib.Core.Bool.{Bool, true, false, cond}
+use mathlib.Core.Option.{Option, none, some}
+use Rattle.text.specs.Answer.{ok}
+use Rattle.text.proofs.AnswerLaws.{not-ok, ok-same, ok-bind}
+use Rattle.asm.specs.declared.OlaAsmInstruction.{OlaAsmInstruction}
+use Rattle.asm.specs.declared.PlaceFound.{PlaceFound}
+use Rattle.asm.specs.declared.PlaceFound.the-variants.{At, Nothing}
+use Rattle.relocate.specs.declared.LabelEntry.{LabelEntry}
+use Rattle.program.specs.declared.BinaryInstruction.{BinaryInstruction}
+use Rattle.encoder.specs.Canonical.{firstMisplaced}
+use Rattle.encoder_canonical.specs.Held.{heldCanonical, canonicalNumbered, heldProgram}
+use Rattle.encoder_canonical.specs.declared.Canonical.{Canonical}
+use Rattle.encoder_canonical.specs.declared.Canonical.the-variants.{Is as Made, Unknown, Misused}
+use Rattle.encoder_walks.specs.Walks.{isNumberAside, isMisplaced, heldMisplaced}
+
+-- a place that may be none
+abbrev pub placeFound : Option ℕ → PlaceFound
+placeFound none = Nothing
+placeFound (some d) = At d
+
+-- an accepted row became its instruction
+pub accepted-made : (k : ℕ) (c : Canonical) (b : BinaryInstruction) → canonicalNumbered k c ≡ ok b → c ≡ Made b
+accepted-made k (Made m) b e = ap Made (ok-same e)
+accepted-made k Unknown b e = absurd (not-ok e)
+accepted-made k Misused b e = absurd (not-ok e)
+
+-- an accepted program: its first row, and the rest
+pub record Accepted (s : List ℕ) (es : List LabelEntry) (k : ℕ) (i : OlaAsmInstruction) (is : List OlaAsmInstruction) (bs : List BinaryInstruction) : Type 0 where
+  pub first : BinaryInstruction
+  pub later : List BinaryInstruction
+  pub held : heldCanonical s es i ≡ Made first
+  pub rest : heldProgram s es (suc k) is ≡ ok later
+  pub whole : first ∷ later ≡ bs
+
+pub accepted-first : (s : List ℕ) (es : List LabelEntry) (k : ℕ) (i : OlaAsmInstruction) (is : List OlaAsmInstruction) (bs : List BinaryInstruction)
+    → heldProgram s es k (i ∷ is) ≡ ok bs → Accepted s es k i is bs
+unfolding heldProgram
+accepted-first s es k i is bs e =
+    let x = ok-bind (canonicalNumbered k (heldCanonical s es i)) _ bs e in
+    let y = ok-bind (heldProgram s es (suc k) is) _ bs (x .2) in
+    record {
+      first = x .0;
+      later = y .0;
+      held = accepted-made k (heldCanonical s es i) (x .0) (x .1);
+      rest = y .1;
+      whole = ok-same (y .2);
+    }
+
+-- one test, told as a place
+place-told : (t : Bool) (k : ℕ) (later : Option ℕ) → cond t (At k) (placeFound later) ≡ placeFound (cond t (some k) later)
+place-told true k later = refl
+place-told false k later = refl
+
+-- where every name is known, the walk's first misplaced number is that of the program
+pub held-misplaced : (s : List ℕ) (es : List LabelEntry) (k : ℕ) (is : List OlaAsmInstruction) (bs : List BinaryInstruction)
+    → heldProgram s es k is ≡ ok bs → heldMisplaced s es k is ≡ placeFound (firstMisplaced k bs)
+unfolding heldMisplaced firstMisplaced heldProgram
+held-misplaced s es k [] bs e = rw (← (ok-same e))
+held-misplaced s es k (i ∷ is) bs e =
+    let w = accepted-first s es k i is bs e in
+    rw (w .held, held-misplaced s es (suc k) is (w .later) (w .rest))
+    (place-told (isNumberAside (w .first)) k (firstMisplaced (suc k) (w .later)) ∙ ap (λ (bs : List BinaryInstruction). placeFound (firstMisplaced k bs)) (w .whole))

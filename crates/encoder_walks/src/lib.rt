@@ -1,0 +1,137 @@
+// Refusals 10 to 12: walks over the canonical instructions in sorted order, by the label table's five columns.
+use asm::PlaceFound;
+use asm::RowCount;
+use encoder::AssembleRefusal;
+use encoder_canonical::CanonicalLine;
+use program::BinaryInstruction;
+use vm_operands::OlaOperand;
+ghost use mathlib.Core.Path.{_≡_};
+ghost use Rattle.relocate.specs.Layout.{sortedInstructions};
+ghost use Rattle.relocate.specs.Columns.{entriesOf};
+ghost use Rattle.encoder_walks.specs.Walks.{isNumberAside, heldCount, heldMisplaced, resolutionNumbered};
+
+// How many instructions a source has, where every name is known and every memory operand is one.
+pub enum Resolution {
+    Is(usize),
+    Refused(AssembleRefusal),
+}
+
+// Refusals 10 and 11, whichever instruction comes first, where main's scope runs from start to end.
+pub fn resolve(
+    source: &[u8],
+    kinds: &[u8],
+    mapped: &[bool],
+    starts: &[usize],
+    lengths: &[usize],
+    addresses: &[u64],
+    start: usize,
+    end: usize,
+) -> Resolution
+    ensures { λ r. ⌜ resolutionNumbered r ≡ heldCount (now (source .entry)) (entriesOf (now (kinds .entry)) (now (mapped .entry)) (now (starts .entry)) (now (lengths .entry)) (now (addresses .entry))) (sortedInstructions (now (source .entry)) start end) ⌝ }
+{
+    if end < start {
+        return Resolution::Is(0);
+    }
+    if source.len() < end {
+        return Resolution::Is(0);
+    }
+    let mut at: usize = 0;
+    let mut count: usize = 0;
+    while at < source.len() {
+        let line = encoder_canonical::canonical_at(
+            source,
+            kinds,
+            mapped,
+            starts,
+            lengths,
+            addresses,
+            start,
+            end,
+            at,
+        );
+        let found = line.found;
+        at = line.next;
+        match found {
+            CanonicalLine::Skip => {}
+            CanonicalLine::Is(instruction) => {
+                count += 1;
+            }
+            CanonicalLine::Unknown => {
+                return Resolution::Refused(AssembleRefusal::NameUnknown(RowCount::new(count)));
+            }
+            CanonicalLine::Misused => {
+                return Resolution::Refused(AssembleRefusal::MemoryOperand(RowCount::new(count)));
+            }
+        }
+    }
+    Resolution::Is(count)
+}
+
+// Whether a place that may hold none holds a number: op0 or dst.
+fn number_aside(instruction: BinaryInstruction) -> bool
+    ensures { λ r. ⌜ r ≡ isNumberAside instruction ⌝ }
+{
+    let op0 = instruction.op0;
+    let dst = instruction.dst;
+    if let OlaOperand::ImmediateOperand { value } = op0 {
+        return true;
+    }
+    if let OlaOperand::ImmediateOperand { value } = dst {
+        return true;
+    }
+    false
+}
+
+// The first instruction, names resolved, that has a number in op0 or dst.
+pub fn misplaced(
+    source: &[u8],
+    kinds: &[u8],
+    mapped: &[bool],
+    starts: &[usize],
+    lengths: &[usize],
+    addresses: &[u64],
+    start: usize,
+    end: usize,
+) -> PlaceFound
+    ensures { λ r. ⌜ r ≡ heldMisplaced (now (source .entry)) (entriesOf (now (kinds .entry)) (now (mapped .entry)) (now (starts .entry)) (now (lengths .entry)) (now (addresses .entry))) 0 (sortedInstructions (now (source .entry)) start end) ⌝ }
+{
+    if end < start {
+        return PlaceFound::Nothing;
+    }
+    if source.len() < end {
+        return PlaceFound::Nothing;
+    }
+    let mut at: usize = 0;
+    let mut index: usize = 0;
+    while at < source.len() {
+        let line = encoder_canonical::canonical_at(
+            source,
+            kinds,
+            mapped,
+            starts,
+            lengths,
+            addresses,
+            start,
+            end,
+            at,
+        );
+        let found = line.found;
+        at = line.next;
+        match found {
+            CanonicalLine::Skip => {}
+            CanonicalLine::Is(instruction) => {
+                if number_aside(instruction) {
+                    return PlaceFound::At(index);
+                }
+                index += 1;
+            }
+            CanonicalLine::Unknown => {
+                index += 1;
+            }
+            CanonicalLine::Misused => {
+                index += 1;
+            }
+        }
+    }
+    PlaceFound::Nothing
+}
