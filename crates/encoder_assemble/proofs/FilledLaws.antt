@@ -1,19 +1,17 @@
 -- A source whose label table is filled: the stages are document 01's, and the words and hosts written are those of the accepted source.
-use Prim.Native.Nat.{ℕ, zero, _+_, _<_, _≤_}
+use Prim.Native.Nat.{ℕ, _+_, _≤_}
 use mathlib.Core.Path.{_≡_, refl, sym, ap, subst, _∙_}
 use mathlib.Core.List.{List, [], _∷_, _++_, map}
-use mathlib.Core.Bool.{Bool, true, false, _||_, cond}
+use mathlib.Core.Bool.{Bool, true, false, _||_}
 use mathlib.Core.Option.{Option, none, some}
 use native.Mathlib.Omega.{arith}
-use native.Mathlib.Nat.{zero-add}
 use borrow.Author.Needs.{needs}
 use borrow.Author.Tests.{le-leb, ltb-false, le-ltb}
-use lib.Dec.{ltb}
 use lib.ListN.{length, take, drop, length-map, length-append, length-take}
-use lib.Seq.{sets, sets-eq, length-take-le}
+use lib.Seq.{sets}
 use Rattle.text.specs.Lists.{total}
-use Rattle.text.specs.Answer.{Answer, ok, refused, _>>=_, _>>_, refuseIf, refuseAt, over, onOk}
-use Rattle.text.proofs.AnswerLaws.{not-ok, ok-same, ok-bind, if-passed, at-passed}
+use Rattle.text.specs.Answer.{Answer, ok, refused, _>>=_, _>>_, over, onOk}
+use Rattle.text.proofs.AnswerLaws.{not-ok, ok-same, ok-bind, if-passed, at-passed, sets-over}
 use Rattle.asm.specs.Rows.{instructions}
 use Rattle.asm.specs.Survey.{wordCount}
 use Rattle.asm.specs.declared.AsmRow.{AsmRow}
@@ -33,7 +31,7 @@ use Rattle.relocate.proofs.StretchLaws.{tabled-measured, measured-order, measur
 use Rattle.relocate.proofs.WalkLaws.{sorted-start}
 use Rattle.program.specs.Words.{programWords}
 use Rattle.program.specs.declared.BinaryInstruction.{BinaryInstruction}
-use Rattle.encoder.specs.Canonical.{namesOf, canonicalProgram, firstMisplaced}
+use Rattle.encoder.specs.Canonical.{canonicalProgram, firstMisplaced}
 use Rattle.encoder.specs.Assemble.{Room, Accepted, numbered, totalsOf, encodedRows, assembled, assembledTotals, wordsLeft, hostsLeft, assembleNumber, assembleDetail}
 use Rattle.encoder.specs.declared.AssembleRefusal.{AssembleRefusal}
 use Rattle.encoder.specs.declared.AssembleRefusal.the-variants.{Relocate}
@@ -43,7 +41,7 @@ use Rattle.encoder.specs.declared.Totals.{Totals}
 use Rattle.encoder_canonical.specs.Held.{heldProgram}
 use Rattle.encoder_canonical.proofs.HeldLaws.{held-program}
 use Rattle.encoder_canonical.proofs.WordLaws.{program-words}
-use Rattle.encoder_walks.specs.Walks.{heldCount, heldMisplaced}
+use Rattle.encoder_walks.specs.Walks.{heldCount}
 use Rattle.encoder_walks.proofs.ProgramLaws.{placeFound, held-misplaced}
 use Rattle.encoder_assemble.specs.Written.{heldWords}
 use Rattle.encoder_assemble.specs.Checked.{placeOption, checkedNumbered, checkedOf, encodedTotals}
@@ -51,10 +49,6 @@ use Rattle.encoder_assemble.specs.declared.Checked.{Checked}
 use Rattle.encoder_assemble.specs.declared.Checked.the-variants.{Is, Refused}
 use Rattle.encoder_assemble.proofs.StageLaws.{hostsIn, stages-together}
 use Rattle.encoder_assemble.proofs.WriteLaws.{held-words}
-
--- entries stored from the start on
-pub sets-over : {A : Type 0} (new old : List A) → length new ≤ length old → sets old 0 new ≡ over new old
-sets-over new old h = let e = zero-add (length new) in sets-eq new old 0 (omega arith) ∙ ap (λ (k : ℕ). new ++ drop k old) e
 
 same-place : (o : Option ℕ) → placeOption (placeFound o) ≡ o
 same-place none = refl
@@ -295,10 +289,6 @@ module _ (s list : List ℕ) (entries wordroom hostroom : ℕ) (x : Measured) (e
         (entries-columns (tableOf (layoutRows s l)))
 
 pub ruleset source-laws = (source-refused, source-words, source-hosts, room-measured, source-told, source-wrote, source-hosted, table-filled, needs)
-
--- a part's own length
-pub taken-counts : {A : Type 0} (xs : List A) (n : ℕ) → n ≤ length xs → n ≡ length (take n xs)
-taken-counts xs n h = sym (length-take-le n xs h)
 
 -- the counts with the prophets kept
 pub counts-told : (l : Layout) (count : ℕ) (hs : List ℕ) (k : ℕ) → k ≡ keptCount (take count hs)

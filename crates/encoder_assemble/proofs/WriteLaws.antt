@@ -18,7 +18,7 @@ use Rattle.program.specs.Words.{firstWord, secondWord, inOrder, wordsOf, progra
 use Rattle.program.specs.declared.BinaryInstruction.{BinaryInstruction}
 use Rattle.program.specs.declared.SecondWord.{SecondWord}
 use Rattle.program.specs.declared.SecondWord.the-variants.{Number, Nothing}
-use Rattle.encoder_canonical.specs.Held.{heldCanonical, heldProgram, ofCanonical, canonicalAt}
+use Rattle.encoder_canonical.specs.Held.{heldProgram, ofCanonical, canonicalAt}
 use Rattle.encoder_canonical.specs.declared.Canonical.{Canonical}
 use Rattle.encoder_canonical.specs.declared.Canonical.the-variants.{Is as Made, Unknown, Misused}
 use Rattle.encoder_canonical.specs.declared.CanonicalLine.the-variants.{Skip, Is as MadeLine, Unknown as UnknownLine, Misused as MisusedLine}
@@ -34,10 +34,12 @@ words-some : (w : ℕ) (o : Option ℕ) → 1 ≤ length (inOrder w o)
 words-some w none = omega arith
 words-some w (some v) = omega arith
 
+-- a second word told is the second word
 second-some : (o : Option ℕ) (w v : ℕ) → Number v ≡ secondOf o → inOrder w o ≡ w ∷ v ∷ []
 second-some none w v e = let z : _≡_ {A = ℕ} 0 1 = cc in absurd (omega arith)
 second-some (some u) w v e = let z : v ≡ u = cc in rw z
 
+-- none told is none
 second-none : (o : Option ℕ) (w : ℕ) → Nothing ≡ secondOf o → inOrder w o ≡ w ∷ []
 second-none none w e = refl
 second-none (some u) w e = let z : _≡_ {A = ℕ} 0 1 = cc in absurd (omega arith)
@@ -49,26 +51,32 @@ module _ (m : BinaryInstruction) (n : ℕ) (words : List ℕ) (k : n + length (w
 
   module _ (o : SecondWord) (e : o ≡ secondOf (secondWord m)) where
     module _ (v : ℕ) (f : o ≡ Number v) where
+      -- the words, where a second was told
       two-words : wordsOf m ≡ firstWord m ∷ v ∷ []
       two-words = second-some (secondWord m) (firstWord m) v (sym f ∙ e)
 
-      -- and for the second, where there is one
+      -- there is room for the second word
       pub put-second : n + 1 < length words
       put-second = let w = ap length two-words in omega arith
 
+      -- the place after two words
       pub put-two : n + 2 ≡ n + length (wordsOf m)
       put-two = rw two-words
 
+      -- both words written
       pub put-both : (w : ℕ) → w ≡ firstWord m → set (set words n w) (n + 1) v ≡ sets words n (wordsOf m)
       put-both w g = rw (two-words, g, add-one n)
 
     module _ (f : o ≡ Nothing) where
+      -- the words, where none was told
       one-word : wordsOf m ≡ firstWord m ∷ []
       one-word = second-none (secondWord m) (firstWord m) (sym f ∙ e)
 
+      -- the place after one word
       pub put-one : n + 1 ≡ n + length (wordsOf m)
       put-one = rw one-word
 
+      -- one word written
       pub put-alone : (w : ℕ) → w ≡ firstWord m → set words n w ≡ sets words n (wordsOf m)
       put-alone w g = rw (one-word, g)
 
@@ -89,17 +97,20 @@ module _ (s : List ℕ) (es : List LabelEntry) (start end at : ℕ) (r : Canonic
   words-skip f = ap (heldWords s es) (line-skip s es start end at r a b e h f)
 
   module _ (n : ℕ) (new : List ℕ) (k : n + length (heldWords s es (rowsFrom s start end at)) ≤ length new) where
-    -- a line without words leaves the room
+    -- a line that is no instruction row leaves the room
     pub room-skip : r .found ≡ Skip → n + length (heldWords s es (rowsFrom s start end (r .next))) ≤ length new
     room-skip f = let w = ap length (words-skip f) in omega arith
 
+    -- so does a row with an unknown name
     pub room-unknown : r .found ≡ UnknownLine → n + length (heldWords s es (rowsFrom s start end (r .next))) ≤ length new
     room-unknown f = let w = ap length (words-row Unknown f) in omega arith
 
+    -- and one with no memory operand
     pub room-misused : r .found ≡ MisusedLine → n + length (heldWords s es (rowsFrom s start end (r .next))) ≤ length new
     room-misused f = let w = ap length (words-row Misused f) in omega arith
 
     module _ (m : BinaryInstruction) (f : r .found ≡ MadeLine m) where
+      -- an instruction's words and those behind it, counted
       words-count : length (heldWords s es (rowsFrom s start end at)) ≡ length (wordsOf m) + length (heldWords s es (rowsFrom s start end (r .next)))
       words-count = ap length (words-row (Made m) f) ∙ length-append (wordsOf m) (heldWords s es (rowsFrom s start end (r .next)))
 
@@ -115,13 +126,15 @@ module _ (s : List ℕ) (es : List LabelEntry) (start end at : ℕ) (r : Canonic
           omega arith
 
   module _ (n : ℕ) (old new : List ℕ) (t : sets old 0 (heldWords s es (sortedInstructions s start end)) ≡ sets new n (heldWords s es (rowsFrom s start end at))) where
-    -- a line without words leaves what is to be written
+    -- a line that is no instruction row leaves what is to be written
     pub write-skip : r .found ≡ Skip → sets old 0 (heldWords s es (sortedInstructions s start end)) ≡ sets new n (heldWords s es (rowsFrom s start end (r .next)))
     write-skip f = t ∙ ap (sets new n) (words-skip f)
 
+    -- so does a row with an unknown name
     pub write-unknown : r .found ≡ UnknownLine → sets old 0 (heldWords s es (sortedInstructions s start end)) ≡ sets new n (heldWords s es (rowsFrom s start end (r .next)))
     write-unknown f = t ∙ ap (sets new n) (words-row Unknown f)
 
+    -- and one with no memory operand
     pub write-misused : r .found ≡ MisusedLine → sets old 0 (heldWords s es (sortedInstructions s start end)) ≡ sets new n (heldWords s es (rowsFrom s start end (r .next)))
     write-misused f = t ∙ ap (sets new n) (words-row Misused f)
 
@@ -139,6 +152,7 @@ module _ (s : List ℕ) (es : List LabelEntry) (start end : ℕ) (a : start ≤ 
   pub write-start : (old : List ℕ) → sets old 0 (heldWords s es (sortedInstructions s start end)) ≡ sets old 0 (heldWords s es (rowsFrom s start end 0))
   write-start old = rw (rows-start s start end a b)
 
+  -- there is room for them
   pub room-start : (old : List ℕ) → length (heldWords s es (sortedInstructions s start end)) ≤ length old → 0 + length (heldWords s es (rowsFrom s start end 0)) ≤ length old
   room-start old h = let w = ap (λ (is : List OlaAsmInstruction). length (heldWords s es is)) (rows-start s start end a b) in omega arith
 

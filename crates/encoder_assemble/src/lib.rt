@@ -69,7 +69,7 @@ fn write_words(
     ensures { λ _. ⌜ now (words .exit) ≡ sets (now (words .entry)) 0 (heldWords (now (source .entry)) (entriesOf (now (kinds .entry)) (now (mapped .entry)) (now (starts .entry)) (now (lengths .entry)) (now (addresses .entry))) (sortedInstructions (now (source .entry)) start end)) ⌝ }
 {
     let mut at: usize = 0;
-    let mut n: usize = 0;
+    let mut written: usize = 0;
     while at < source.len() {
         let line = encoder_canonical::canonical_at(
             source,
@@ -87,7 +87,7 @@ fn write_words(
         match found {
             CanonicalLine::Skip => {}
             CanonicalLine::Is(instruction) => {
-                n = put_words(instruction, n, words);
+                written = put_words(instruction, written, words);
             }
             CanonicalLine::Unknown => {}
             CanonicalLine::Misused => {}

@@ -89,6 +89,14 @@ memory-words o x (SpecialReg t) = tt
 memory-words o x (Label start n) = tt
 memory-words o x (Identifier start n) = tt
 
+-- an accepted row is one that was made
+pub numbered-made : (k : ℕ) (f : Canonical) (b : BinaryInstruction) → canonicalNumbered k f ≡ ok b → f ≡ Made b
+numbered-made k (Made c) b e = ap Made (ok-same e)
+numbered-made k NameUnknown b e = absurd (not-ok e)
+numbered-made k Misused b e = absurd (not-ok e)
+
+-- the words of rows, one by one
+
 module _ (s : List ℕ) (es : List LabelEntry) where
   -- what is looked up becomes a number
   number-carries : (found : AddressFound) → CarriesIf true (heldNumber found)
@@ -132,13 +140,6 @@ module _ (s : List ℕ) (es : List LabelEntry) where
 
   -- ---- a program
 
-  -- an accepted row is one that was made
-  numbered-made : (k : ℕ) (f : Canonical) (b : BinaryInstruction) → canonicalNumbered k f ≡ ok b → f ≡ Made b
-  numbered-made k (Made c) b e = ap Made (ok-same e)
-  numbered-made k NameUnknown b e = absurd (not-ok e)
-  numbered-made k Misused b e = absurd (not-ok e)
-
-  -- the words of rows, one by one
   placed-words : (k : ℕ) (is : List OlaAsmInstruction) (bs : List BinaryInstruction) → heldProgram s es k is ≡ ok bs → All WellPlaced bs
       → length (programWords bs) ≡ total (map wordCount is)
   unfolding heldProgram programWords total

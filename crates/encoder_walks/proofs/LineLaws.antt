@@ -2,14 +2,11 @@
 use Prim.Native.Nat.{ℕ, _+_, _-_, _<_, _≤_}
 use mathlib.Core.Path.{_≡_, refl, sym, ap, subst, _∙_}
 use mathlib.Core.List.{List, [], _∷_}
-use mathlib.Core.Bool.{_&&_, cond}
 use native.Mathlib.Omega.{arith}
 use borrow.Author.Tests.{le-leb, lt-leb}
-use lib.Dec.{leb}
 use lib.ListN.{length}
 use Rattle.asm.specs.Rows.{instructions}
 use Rattle.asm.specs.declared.OlaAsmInstruction.{OlaAsmInstruction}
-use Rattle.asm.specs.declared.AsmRow.{AsmRow}
 use Rattle.asm.specs.declared.AsmRow.the-variants.{Instruction, LabelCall, LabelJmp, LabelProphet}
 use Rattle.asm.specs.declared.LineRead.{LineRead}
 use Rattle.asm.specs.declared.LineRead.the-variants.{Blank, Row, Unreadable}
@@ -58,6 +55,7 @@ taken (MadeLine b) = Made b
 taken UnknownLine = NameUnknown
 taken MisusedLine = Misused
 
+-- that gives back what was told
 taken-of : (c : Canonical) → taken (ofCanonical c) ≡ c
 unfolding taken
 taken-of (Made b) = refl
@@ -75,7 +73,7 @@ told-not-skip NameUnknown e = let z : _≡_ {A = ℕ} 0 1 = cc in omega arith
 told-not-skip Misused e = let z : _≡_ {A = ℕ} 0 1 = cc in omega arith
 
 -- an instruction row that became c, and the rows behind it
-pub record RowRead (s : List ℕ) (es : List LabelEntry) (start end v next : ℕ) (c : Canonical) : Type 0 where
+pub record HeldRow (s : List ℕ) (es : List LabelEntry) (start end v next : ℕ) (c : Canonical) : Type 0 where
   pub row : OlaAsmInstruction
   pub held : heldCanonical s es row ≡ c
   pub rest : rowsFrom s start end v ≡ row ∷ rowsFrom s start end next
@@ -84,9 +82,10 @@ pub record RowRead (s : List ℕ) (es : List LabelEntry) (start end v next : ℕ
 -- what was found at a line: nothing, and it adds nothing, or what its instruction row became
 data Found (s : List ℕ) (es : List LabelEntry) (start end v next : ℕ) (found : CanonicalLine) : Type 0 where
   no-row : found ≡ Skip → rowsFrom s start end v ≡ rowsFrom s start end next → Found s es start end v next found
-  one-row : (c : Canonical) → found ≡ ofCanonical c → RowRead s es start end v next c → Found s es start end v next found
+  one-row : (c : Canonical) → found ≡ ofCanonical c → HeldRow s es start end v next c → Found s es start end v next found
 
 module _ (s : List ℕ) (es : List LabelEntry) (start end v : ℕ) (r : CanonicalAt) (a : start ≤ end) (b : end ≤ length s) (e : r ≡ canonicalAt s es start end v) (h : v < length s) where
+  -- the next line is that of the sorted source
   next-is : r .next ≡ sortedRowAt s start end v .next
   next-is = ap (λ (x : CanonicalAt). x .next) e
 
@@ -98,6 +97,7 @@ module _ (s : List ℕ) (es : List LabelEntry) (start end v : ℕ) (r : Canonica
   pub line-within : r .next ≤ length s
   line-within = let w = sorted-next-within s start end v (sortedRowAt s start end v) a b refl h in let n = next-is in omega arith
 
+  -- what was found is what the line's row, if it has one, became
   line-found : Found s es start end v (r .next) (r .found)
   unfolding instructions
   line-found = rw e (go (sortedRowAt s start end v .read) refl)
@@ -124,21 +124,22 @@ module _ (s : List ℕ) (es : List LabelEntry) (start end v : ℕ) (r : Canonica
       go (one-row c f g) = absurd (told-not-skip c (sym f ∙ k))
 
   -- any other is an instruction row that became what was found
-  pub line-row : (c : Canonical) → r .found ≡ ofCanonical c → RowRead s es start end v (r .next) c
+  pub line-row : (c : Canonical) → r .found ≡ ofCanonical c → HeldRow s es start end v (r .next) c
   line-row c k = go line-found
     where
-      go : Found s es start end v (r .next) (r .found) → RowRead s es start end v (r .next) c
+      go : Found s es start end v (r .next) (r .found) → HeldRow s es start end v (r .next) c
       go (no-row f g) = absurd (told-not-skip c (sym k ∙ f))
-      go (one-row d f g) = subst (RowRead s es start end v (r .next)) (told-same d c (sym f ∙ k)) g
+      go (one-row d f g) = subst (HeldRow s es start end v (r .next)) (told-same d c (sym f ∙ k)) g
 
-  -- so the walk comes nearer to the end
+  -- so each line brings the walk nearer to the end
   pub line-less : length s - r .next < length s - v
   line-less = let w = line-past in omega arith
 
-  -- as many places as instructions were passed
+  -- an index that the walk has not passed stays so
   pub index-kept : (k : ℕ) → k ≤ v → k ≤ r .next
   index-kept k i = let w = line-past in omega arith
 
+  -- and so does the index after it
   pub index-more : (k : ℕ) → k ≤ v → k + 1 ≤ r .next
   index-more k i = let w = line-past in omega arith
 

@@ -1,11 +1,11 @@
 -- A program whose names are all known: the first misplaced number found by the walk is the definition's.
 use Prim.Native.Nat.{ℕ, suc}
-use mathlib.Core.Path.{_≡_, refl, sym, ap, _∙_}
+use mathlib.Core.Path.{_≡_, refl, ap, _∙_}
 use mathlib.Core.List.{List, [], _∷_}
 use mathlib.Core.Bool.{Bool, true, false, cond}
 use mathlib.Core.Option.{Option, none, some}
 use Rattle.text.specs.Answer.{ok}
-use Rattle.text.proofs.AnswerLaws.{not-ok, ok-same, ok-bind}
+use Rattle.text.proofs.AnswerLaws.{ok-same, ok-bind}
 use Rattle.asm.specs.declared.OlaAsmInstruction.{OlaAsmInstruction}
 use Rattle.asm.specs.declared.PlaceFound.{PlaceFound}
 use Rattle.asm.specs.declared.PlaceFound.the-variants.{At, Nothing}
@@ -13,20 +13,14 @@ use Rattle.relocate.specs.declared.LabelEntry.{LabelEntry}
 use Rattle.program.specs.declared.BinaryInstruction.{BinaryInstruction}
 use Rattle.encoder.specs.Canonical.{firstMisplaced}
 use Rattle.encoder_canonical.specs.Held.{heldCanonical, canonicalNumbered, heldProgram}
-use Rattle.encoder_canonical.specs.declared.Canonical.{Canonical}
-use Rattle.encoder_canonical.specs.declared.Canonical.the-variants.{Is as Made, Unknown, Misused}
-use Rattle.encoder_walks.specs.Walks.{isNumberAside, isMisplaced, heldMisplaced}
+use Rattle.encoder_canonical.specs.declared.Canonical.the-variants.{Is as Made}
+use Rattle.encoder_canonical.proofs.WordLaws.{numbered-made}
+use Rattle.encoder_walks.specs.Walks.{isNumberAside, heldMisplaced}
 
 -- a place that may be none
 abbrev pub placeFound : Option ℕ → PlaceFound
 placeFound none = Nothing
 placeFound (some d) = At d
-
--- an accepted row became its instruction
-pub accepted-made : (k : ℕ) (c : Canonical) (b : BinaryInstruction) → canonicalNumbered k c ≡ ok b → c ≡ Made b
-accepted-made k (Made m) b e = ap Made (ok-same e)
-accepted-made k Unknown b e = absurd (not-ok e)
-accepted-made k Misused b e = absurd (not-ok e)
 
 -- an accepted program: its first row, and the rest
 pub record Accepted (s : List ℕ) (es : List LabelEntry) (k : ℕ) (i : OlaAsmInstruction) (is : List OlaAsmInstruction) (bs : List BinaryInstruction) : Type 0 where
@@ -36,6 +30,7 @@ pub record Accepted (s : List ℕ) (es : List LabelEntry) (k : ℕ) (i : OlaAsmI
   pub rest : heldProgram s es (suc k) is ≡ ok later
   pub whole : first ∷ later ≡ bs
 
+-- every accepted program with a row is so
 pub accepted-first : (s : List ℕ) (es : List LabelEntry) (k : ℕ) (i : OlaAsmInstruction) (is : List OlaAsmInstruction) (bs : List BinaryInstruction)
     → heldProgram s es k (i ∷ is) ≡ ok bs → Accepted s es k i is bs
 unfolding heldProgram
@@ -45,7 +40,7 @@ accepted-first s es k i is bs e =
     record {
       first = x .0;
       later = y .0;
-      held = accepted-made k (heldCanonical s es i) (x .0) (x .1);
+      held = numbered-made k (heldCanonical s es i) (x .0) (x .1);
       rest = y .1;
       whole = ok-same (y .2);
     }

@@ -1,8 +1,8 @@
 -- The walks of refusals 10 to 12: what is left at a line makes what the whole source makes.
-use Prim.Native.Nat.{ℕ, suc, _+_, _-_, _<_, _≤_}
+use Prim.Native.Nat.{ℕ, suc, _+_, _<_, _≤_}
 use mathlib.Core.Path.{_≡_, refl, sym, ap, _∙_}
 use mathlib.Core.List.{List, [], _∷_}
-use mathlib.Core.Bool.{Bool, true, false, _||_}
+use mathlib.Core.Bool.{Bool, true, false}
 use types.Run.{OneOf, miss}
 use denote.Enum.Declared.{tagOf}
 use native.Mathlib.Omega.{arith}
@@ -17,7 +17,6 @@ use Rattle.vm_operands.specs.declared.OlaOperand.the-variants.{Empty, Immediate
 use Rattle.vm_operands.proofs.OlaOperand.{the-type as operandType}
 use Rattle.asm.specs.declared.OlaAsmInstruction.{OlaAsmInstruction}
 use Rattle.asm.specs.declared.RowCount.{RowCount}
-use Rattle.asm.specs.declared.PlaceFound.{PlaceFound}
 use Rattle.asm.specs.declared.PlaceFound.the-variants.{At, Nothing}
 use Rattle.relocate.specs.Layout.{sortedInstructions}
 use Rattle.relocate.specs.declared.LabelEntry.{LabelEntry}
@@ -61,16 +60,18 @@ module _ (s : List ℕ) (es : List LabelEntry) (k : ℕ) (i : OlaAsmInstruction)
   count-refused c n d e f = rw (e, f)
 
 module _ (s : List ℕ) (es : List LabelEntry) (start end : ℕ) where
-  -- where main's scope does not lie within the source there is nothing to count
+  -- a scope that ends before it starts: nothing to count
   pub count-crossed : end < start → resolutionNumbered (Is 0) ≡ heldCount s es (sortedInstructions s start end)
   unfolding heldCount heldProgram _>>=_
   count-crossed h = rw (rows-crossed s start end h)
 
+  -- a scope that ends past the source's end: nothing to count
   pub count-outside : start ≤ end → length s < end → resolutionNumbered (Is 0) ≡ heldCount s es (sortedInstructions s start end)
   unfolding heldCount heldProgram _>>=_
   count-outside a h = rw (rows-outside s start end a h)
 
   module _ (a : start ≤ end) (b : end ≤ length s) where
+    -- at the start everything is left
     pub count-start : heldCount s es (sortedInstructions s start end) ≡ counted 0 (heldProgram s es 0 (rowsFrom s start end 0))
     unfolding heldCount
     count-start = rw (rows-start s start end a b) (count-from (heldProgram s es 0 (rowsFrom s start end 0)))
@@ -146,16 +147,18 @@ module _ (s : List ℕ) (es : List LabelEntry) (k : ℕ) (i : OlaAsmInstruction)
   place-later f = rw (e, f, add-one k)
 
 module _ (s : List ℕ) (es : List LabelEntry) (start end : ℕ) where
-  -- where main's scope does not lie within the source there is nothing to look at
+  -- a scope that ends before it starts: nothing to look at
   pub place-crossed : end < start → Nothing ≡ heldMisplaced s es 0 (sortedInstructions s start end)
   unfolding heldMisplaced
   place-crossed h = rw (rows-crossed s start end h)
 
+  -- a scope that ends past the source's end: nothing to look at
   pub place-outside : start ≤ end → length s < end → Nothing ≡ heldMisplaced s es 0 (sortedInstructions s start end)
   unfolding heldMisplaced
   place-outside a h = rw (rows-outside s start end a h)
 
   module _ (a : start ≤ end) (b : end ≤ length s) where
+    -- at the start everything is left
     pub place-start : heldMisplaced s es 0 (sortedInstructions s start end) ≡ heldMisplaced s es 0 (rowsFrom s start end 0)
     place-start = rw (rows-start s start end a b)
 
@@ -188,10 +191,11 @@ module _ (s : List ℕ) (es : List LabelEntry) (start end : ℕ) where
             → heldMisplaced s es 0 (sortedInstructions s start end) ≡ heldMisplaced s es (k + 1) (rowsFrom s start end (r .next))
         place-more m u f g i = place-pass (Made m) (sym g ∙ i) f
 
-        -- a row that was refused earlier
+        -- a row with an unknown name is passed
         pub place-unknown : r .found ≡ UnknownLine → heldMisplaced s es 0 (sortedInstructions s start end) ≡ heldMisplaced s es (k + 1) (rowsFrom s start end (r .next))
         place-unknown f = place-pass Unknown refl f
 
+        -- a row with no memory operand is passed
         pub place-misused : r .found ≡ MisusedLine → heldMisplaced s es 0 (sortedInstructions s start end) ≡ heldMisplaced s es (k + 1) (rowsFrom s start end (r .next))
         place-misused f = place-pass Misused refl f
 

@@ -6,6 +6,8 @@ use encoder_canonical::CanonicalLine;
 use program::BinaryInstruction;
 use vm_operands::OlaOperand;
 ghost use mathlib.Core.Path.{_≡_};
+ghost use Prim.Native.Nat.{_≤_};
+ghost use lib.ListN.{length};
 ghost use Rattle.relocate.specs.Layout.{sortedInstructions};
 ghost use Rattle.relocate.specs.Columns.{entriesOf};
 ghost use Rattle.encoder_walks.specs.Walks.{isNumberAside, heldCount, heldMisplaced, resolutionNumbered};
@@ -14,6 +16,50 @@ ghost use Rattle.encoder_walks.specs.Walks.{isNumberAside, heldCount, he
 pub enum Resolution {
     Is(usize),
     Refused(AssembleRefusal),
+}
+
+// Refusals 10 and 11 over a walk, where main's scope lies within the source.
+fn resolve_within(
+    source: &[u8],
+    kinds: &[u8],
+    mapped: &[bool],
+    starts: &[usize],
+    lengths: &[usize],
+    addresses: &[u64],
+    start: usize,
+    end: usize,
+) -> Resolution
+    requires { ⌜ (start ≤ end) × (end ≤ length (now source)) ⌝ }
+    ensures { λ r. ⌜ resolutionNumbered r ≡ heldCount (now (source .entry)) (entriesOf (now (kinds .entry)) (now (mapped .entry)) (now (starts .entry)) (now (lengths .entry)) (now (addresses .entry))) (sortedInstructions (now (source .entry)) start end) ⌝ }
+{
+    let mut at: usize = 0;
+    let mut count: usize = 0;
+    while at < source.len() {
+        let line = encoder_canonical::canonical_at(
+            source,
+            kinds,
+            mapped,
+            starts,
+            lengths,
+            addresses,
+            start,
+            end,
+            at,
+        );
+        let found = line.found;
+        at = line.next;
+        match found {
+            CanonicalLine::Skip => {}
+            CanonicalLine::Is(instruction) => count += 1,
+            CanonicalLine::Unknown => {
+                return Resolution::Refused(AssembleRefusal::NameUnknown(RowCount::new(count)));
+            }
+            CanonicalLine::Misused => {
+                return Resolution::Refused(AssembleRefusal::MemoryOperand(RowCount::new(count)));
+            }
+        }
+    }
+    Resolution::Is(count)
 }
 
 // Refusals 10 and 11, whichever instruction comes first, where main's scope runs from start to end.
@@ -35,36 +81,16 @@ pub fn resolve(
     if source.len() < end {
         return Resolution::Is(0);
     }
-    let mut at: usize = 0;
-    let mut count: usize = 0;
-    while at < source.len() {
-        let line = encoder_canonical::canonical_at(
-            source,
-            kinds,
-            mapped,
-            starts,
-            lengths,
-            addresses,
-            start,
-            end,
-            at,
-        );
-        let found = line.found;
-        at = line.next;
-        match found {
-            CanonicalLine::Skip => {}
-            CanonicalLine::Is(instruction) => {
-                count += 1;
-            }
-            CanonicalLine::Unknown => {
-                return Resolution::Refused(AssembleRefusal::NameUnknown(RowCount::new(count)));
-            }
-            CanonicalLine::Misused => {
-                return Resolution::Refused(AssembleRefusal::MemoryOperand(RowCount::new(count)));
-            }
-        }
-    }
-    Resolution::Is(count)
+    resolve_within(
+        source,
+        kinds,
+        mapped,
+        starts,
+        lengths,
+        addresses,
+        start,
+        end,
+    )
 }
 
 // Whether a place that may hold none holds a number: op0 or dst.
@@ -82,8 +108,8 @@ fn number_aside(instruction: BinaryInstruction) -> bool
     false
 }
 
-// The first instruction, names resolved, that has a number in op0 or dst.
-pub fn misplaced(
+// The first number in op0 or dst over a walk, where main's scope lies within the source.
+fn misplaced_within(
     source: &[u8],
     kinds: &[u8],
     mapped: &[bool],
@@ -93,14 +119,9 @@ pub fn misplaced(
     start: usize,
     end: usize,
 ) -> PlaceFound
+    requires { ⌜ (start ≤ end) × (end ≤ length (now source)) ⌝ }
     ensures { λ r. ⌜ r ≡ heldMisplaced (now (source .entry)) (entriesOf (now (kinds .entry)) (now (mapped .entry)) (now (starts .entry)) (now (lengths .entry)) (now (addresses .entry))) 0 (sortedInstructions (now (source .entry)) start end) ⌝ }
 {
-    if end < start {
-        return PlaceFound::Nothing;
-    }
-    if source.len() < end {
-        return PlaceFound::Nothing;
-    }
     let mut at: usize = 0;
     let mut index: usize = 0;
     while at < source.len() {
@@ -125,13 +146,40 @@ pub fn misplaced(
                 }
                 index += 1;
             }
-            CanonicalLine::Unknown => {
-                index += 1;
-            }
-            CanonicalLine::Misused => {
-                index += 1;
-            }
+            CanonicalLine::Unknown => index += 1,
+            CanonicalLine::Misused => index += 1,
         }
     }
     PlaceFound::Nothing
+}
+
+// The first instruction, names resolved, that has a number in op0 or dst.
+pub fn misplaced(
+    source: &[u8],
+    kinds: &[u8],
+    mapped: &[bool],
+    starts: &[usize],
+    lengths: &[usize],
+    addresses: &[u64],
+    start: usize,
+    end: usize,
+) -> PlaceFound
+    ensures { λ r. ⌜ r ≡ heldMisplaced (now (source .entry)) (entriesOf (now (kinds .entry)) (now (mapped .entry)) (now (starts .entry)) (now (lengths .entry)) (now (addresses .entry))) 0 (sortedInstructions (now (source .entry)) start end) ⌝ }
+{
+    if end < start {
+        return PlaceFound::Nothing;
+    }
+    if source.len() < end {
+        return PlaceFound::Nothing;
+    }
+    misplaced_within(
+        source,
+        kinds,
+        mapped,
+        starts,
+        lengths,
+        addresses,
+        start,
+        end,
+    )
 }

@@ -7,13 +7,14 @@ use native.Mathlib.Omega.{arith}
 use native.Mathlib.Nat.{zero-add}
 use native.Mathlib.Numerals.{add-one}
 use borrow.Author.Needs.{needs}
-use borrow.Author.Tests.{ne-eqb, le-leb, lt-leb, leb-true, leb-false, lt-ltb, le-ltb}
+use borrow.Author.Tests.{ne-eqb, le-leb, lt-leb, leb-true, leb-false, lt-ltb, le-ltb, not-true, not-false}
 use lib.Dec.{eqb, leb}
 use lib.ListN.{length, getD, drop, set, length-append, length-set, drop-of-length-le}
-use lib.Seq.{sets, sets-eq}
+use lib.Seq.{sets}
 use mir.Val.{Fits}
 use mir.Syntax.{w64}
 use Rattle.text.specs.Answer.{Answer, ok, refused, _>>=_, _>>_, refuseIf, onOk}
+use Rattle.text.proofs.AnswerLaws.{sets-over}
 use Rattle.text.proofs.Laws.{drop-next, told-not-true, told-not-false}
 use Rattle.text_write.specs.declared.Put.{Put}
 use Rattle.text_write.specs.declared.Put.the-variants.{Count, Short}
@@ -30,13 +31,13 @@ use Rattle.program_bytecode.proofs.LeftLaws.{bytecode-left}
 
 -- ---- asks_number
 module _ (number : Bool) (w : ℕ) where
-  -- after a number comes a first word
-  pub asks-none : number ≡ true → false ≡ asksNumber number w
-  asks-none e = rw e
-
   -- after a first word what its bits say
-  pub asks-second : (t : Bool) → number ≡ false → t ≡ hasSecond w → t ≡ asksNumber number w
-  asks-second t e f = rw e f
+  pub asks-second : (t : Bool) → not number ≡ true → t ≡ hasSecond w → t ≡ asksNumber number w
+  asks-second t e f = rw (not-true number e) f
+
+  -- after a number a first word
+  pub asks-none : not number ≡ false → false ≡ asksNumber number w
+  asks-none e = rw (not-false number e)
 
 -- ---- put_line: d is the text
 module _ (d : List ℕ) (at w : ℕ) (number : Bool) where
@@ -224,7 +225,7 @@ module _ (d w : List ℕ) where
   -- what is stored from the start on lies over what stood there
   pub stored-left : length w ≤ length d → sets d 0 w ≡ textLeft (within (length d) w) d
   unfolding onOk
-  stored-left h = sets-eq w d 0 (omega arith) ∙ ap (λ (k : ℕ). w ++ drop k d) (zero-add (length w)) ∙ sym (ap (λ (a : Answer (List ℕ)). textLeft a d) (within-fits (length d) w h))
+  stored-left h = sets-over w d h ∙ sym (ap (λ (a : Answer (List ℕ)). textLeft a d) (within-fits (length d) w h))
 
   -- a text that is too short is left as it was
   pub kept-left : length d < length w → d ≡ textLeft (within (length d) w) d

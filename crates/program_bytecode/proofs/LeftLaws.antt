@@ -10,17 +10,17 @@ use Rattle.program.specs.Bytecode.{linesOfGroups, joined, bytecodeOf}
 use Rattle.program_bytecode.specs.Left.{lineText, asksNumber, leftText}
 
 -- the lines of words that are left
-unfoldable linesFrom : Bool → List ℕ → List (List ℕ)
+unfoldable pub linesFrom : Bool → List ℕ → List (List ℕ)
 linesFrom number [] = []
 linesFrom number (w ∷ ws) = lineText number w ∷ linesFrom (asksNumber number w) ws
 
 -- the same, with the first word that waits for its second
-abbrev linesAfter : Option ℕ → List ℕ → List (List ℕ)
+abbrev pub linesAfter : Option ℕ → List ℕ → List (List ℕ)
 linesAfter none ws = linesFrom false ws
 linesAfter (some a) ws = sixteenText a ∷ linesFrom true ws
 
 -- the lines of the instructions are the lines of the words one by one
-lines-left : (o : Option ℕ) (ws : List ℕ) → linesOfGroups (grouped hasSecond o ws) ≡ linesAfter o ws
+pub lines-left : (o : Option ℕ) (ws : List ℕ) → linesOfGroups (grouped hasSecond o ws) ≡ linesAfter o ws
 unfolding linesOfGroups grouped linesFrom
 lines-left none [] = refl
 lines-left (some a) [] = refl

@@ -33,17 +33,17 @@ fn has_second(word: u64) -> bool
 }
 
 // Whether the word after this one is a number: not where this one is a number itself.
-fn asks_number(number: bool, word: u64) -> bool
+pub fn asks_number(number: bool, word: u64) -> bool
     ensures { λ r. ⌜ r ≡ asksNumber number word ⌝ }
 {
-    if number {
-        return false;
+    if !number {
+        return has_second(word);
     }
-    has_second(word)
+    false
 }
 
 // Writes the line of a word: a number with the fewest digits, a first word with sixteen.
-fn put_line(text: &mut [u8], at: usize, number: bool, word: u64) -> Put
+pub fn put_line(text: &mut [u8], at: usize, number: bool, word: u64) -> Put
     ensures { λ r. ⌜ (r ≡ putCount (now (text .entry)) at (lineText number word)) × (now (text .exit) ≡ putInto (now (text .entry)) at (lineText number word)) ⌝ }
 {
     if number {

@@ -1,7 +1,7 @@
 -- The hosts of a list's labels: counted one after another, and written one after another.
 use Prim.Native.Nat.{ℕ, suc, _+_, _-_, _^_, _<_, _≤_}
 use mathlib.Core.Path.{_≡_, refl, sym, ap, _∙_}
-use mathlib.Core.List.{List, [], _∷_, _++_}
+use mathlib.Core.List.{List, [], _∷_}
 use mathlib.Core.Bool.{Bool, true, false}
 use native.Mathlib.Omega.{arith}
 use native.Mathlib.Nat.{zero-add, add-zero}
@@ -12,13 +12,13 @@ use mir.Val.{Fits}
 use mir.Syntax.{w64}
 use lib.Dec.{leb}
 use lib.ListN.{length, take, drop, set, length-set, length-map, length-drop}
-use lib.Seq.{sets, sets-eq}
+use lib.Seq.{sets}
 use Rattle.text.specs.Scan.{scan}
 use Rattle.text.specs.Lines.{notFeed}
 use Rattle.text.specs.Answer.{Answer, ok, refused, _>>=_, onOk}
 use Rattle.text.specs.declared.Line.{Line}
 use Rattle.text.proofs.Laws.{scan-le}
-use Rattle.text.proofs.AnswerLaws.{not-ok, ok-same, ok-bind}
+use Rattle.text.proofs.AnswerLaws.{not-ok, ok-same, ok-bind, sets-over}
 use Rattle.asm.specs.Parts.{nextLine}
 use Rattle.asm.specs.declared.PlaceFound.{PlaceFound}
 use Rattle.asm.specs.declared.PlaceFound.the-variants.{At as AtPlace, Nothing as NoPlace}
@@ -263,8 +263,7 @@ module _ (s : List ℕ) (es : List LabelEntry) (list old : List ℕ) (r : Prophe
       unfolding onOk
       write-done new k =
           k
-          ∙ sets-eq (hostsIn s es (linesFrom list i)) old 0 (let l = fit in omega arith)
-          ∙ ap (λ (m : ℕ). hostsIn s es (linesFrom list i) ++ drop m old) (zero-add (length (hostsIn s es (linesFrom list i))))
+          ∙ sets-over (hostsIn s es (linesFrom list i)) old fit
           ∙ rw (accepted, le-ltb (length old) (length (hostsIn s es (linesFrom list i))) fit)
 
     -- where the labels start nowhere the list was refused

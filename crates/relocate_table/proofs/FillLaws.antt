@@ -7,8 +7,9 @@ use native.Mathlib.Omega.{arith}
 use native.Mathlib.Nat.{le-refl, zero-add, add-zero}
 use borrow.Author.Needs.{needs}
 use lib.ListN.{length, set, length-append, length-map}
-use lib.Seq.{sets, sets-eq, length-sets}
+use lib.Seq.{sets, length-sets}
 use Rattle.text.specs.Answer.{Answer, ok, _>>=_, onOk}
+use Rattle.text.proofs.AnswerLaws.{sets-over}
 use Rattle.asm.specs.Rows.{instructions}
 use Rattle.asm.specs.declared.AsmRow.{AsmRow}
 use Rattle.asm.specs.declared.AsmRow.the-variants.{Instruction, LabelCall, LabelJmp, LabelProphet}
@@ -270,8 +271,8 @@ unfolding onOk
 column-done {field = field} {d₀ = d₀} {all = all} {d = d} {n = n} c answer rows e f g h =
     let k : length (map field all) ≤ length d₀ = rw (length-map all field) h in
     sym (c .put ∙ ap (λ (z : List LabelEntry). sets d n (map field z)) g)
-    ∙ sets-eq (map field all) d₀ 0 (rw (zero-add (length (map field all))) k)
-    ∙ rw (zero-add (length (map field all)), e, sym f)
+    ∙ sets-over (map field all) d₀ k
+    ∙ rw (e, sym f)
 
 module _ {s : List ℕ} {room : ℕ} {l : Layout} {kinds₀ : List ℕ} {mapped₀ : List Bool} {starts₀ lengths₀ addresses₀ : List ℕ} {p : Progress} {n at : ℕ}
     {kinds : List ℕ} {mapped : List Bool} {starts lengths addresses : List ℕ}

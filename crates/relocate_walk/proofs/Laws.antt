@@ -9,15 +9,12 @@ use mir.Val.{Fits}
 use mir.Syntax.{w64}
 use lib.ListN.{length, take}
 use lib.Seq.{length-take-le}
+use Rattle.text.proofs.Laws.{part-counts}
 use Rattle.asm.specs.Rows.{rowAt}
 use Rattle.asm.specs.declared.LineRead.{LineRead}
 use Rattle.asm.specs.declared.RowAt.{RowAt}
 use Rattle.asm.proofs.StepLaws.{next-further}
 use Rattle.relocate.specs.Layout.{further, sortedRowAt}
-
--- what stands up to a place has as many bytes
-pub part-counts : (s : List ℕ) (n : ℕ) → n ≤ length s → n ≡ length (take n s)
-part-counts s n h = sym (length-take-le n s h)
 
 made : (x : LineRead) (a b : ℕ) → a ≡ b → _≡_ {A = RowAt} (record { read = x; next = a }) (record { read = x; next = b })
 made x a b e = cc

@@ -1,10 +1,14 @@
 -- What an accepted answer says of the steps that it was made by.
-use Prim.Native.Nat.{ℕ}
-use mathlib.Core.Path.{_≡_, refl}
+use Prim.Native.Nat.{ℕ, _≤_}
+use mathlib.Core.Path.{_≡_, refl, ap, _∙_}
+use mathlib.Core.List.{List, _++_}
 use mathlib.Core.Bool.{Bool, true, false}
 use mathlib.Core.Option.{Option, none, some}
 use native.Mathlib.Omega.{arith}
-use Rattle.text.specs.Answer.{Answer, ok, refused, _>>=_, _>>_, refuseIf, refuseAt}
+use native.Mathlib.Nat.{zero-add}
+use lib.ListN.{length, drop}
+use lib.Seq.{sets, sets-eq}
+use Rattle.text.specs.Answer.{Answer, ok, refused, _>>=_, _>>_, refuseIf, refuseAt, over}
 
 -- a refusal accepts nothing
 pub not-ok : {A : Type 0} {n d : ℕ} {b : A} → refused n d ≡ ok b → ⊥
@@ -37,3 +41,7 @@ pub at-passed : {B : Type 0} (o : Option ℕ) (n : ℕ) (m : Answer B) (b : B) �
 unfolding _>>_ refuseAt
 at-passed none n m b e = (refl, e)
 at-passed (some d) n m b e = absurd (not-ok e)
+
+-- entries stored from the start on lie over what stood there
+pub sets-over : {A : Type 0} (new old : List A) → length new ≤ length old → sets old 0 new ≡ over new old
+sets-over new old h = let e = zero-add (length new) in sets-eq new old 0 (omega arith) ∙ ap (λ (k : ℕ). new ++ drop k old) e

@@ -30,6 +30,10 @@ part-slice (suc f) zero l = rw (zero-sub (suc f))
 part-slice (suc f) (suc t) [] = simp unary-clauses (take-nil (t - f))
 part-slice (suc f) (suc t) (x ∷ xs) = simp unary-clauses (part-slice f t xs)
 
+-- what stands up to a place has as many entries
+pub part-counts : {A : Type 0} (xs : List A) (n : ℕ) → n ≤ length xs → n ≡ length (take n xs)
+part-counts xs n h = sym (length-take-le n xs h)
+
 -- what a call that returns a flag told, behind a test of the flag
 module _ (r t : Bool) (e : r ≡ t) where
   pub told-true : r ≡ true → t ≡ true

@@ -1,11 +1,12 @@
 -- `counts` meets its contract.
-use Rattle.encoder_assemble.proofs.FilledLaws.{taken-counts, counts-told}
+use Rattle.text.proofs.Laws.{part-counts}
+use Rattle.encoder_assemble.proofs.FilledLaws.{counts-told}
 use borrow.Author.Needs.{needs}
 use Rattle.encoder_assemble.proofs.counts.Statement.{statement}
 use Rattle.encoder_assemble.proofs.counts.Tie as tie
 
 slice-aggregate-kept-count : tie.Need-slice-aggregate-kept-count
-slice-aggregate-kept-count c = taken-counts _ _ (c .before .before .pre)
+slice-aggregate-kept-count c = part-counts _ _ (c .before .before .pre)
 
 kept-count-requires : tie.Need-kept-count-requires
 kept-count-requires c κs = search needs

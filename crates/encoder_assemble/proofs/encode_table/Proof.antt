@@ -1,23 +1,23 @@
 -- `encode_table` meets its contract: the parts that it hands on hold the table and nothing else.
-use Rattle.encoder_assemble.proofs.FilledLaws.{taken-counts}
+use Rattle.text.proofs.Laws.{part-counts}
 use borrow.Author.Needs.{needs}
 use Rattle.encoder_assemble.proofs.encode_table.Statement.{statement}
 use Rattle.encoder_assemble.proofs.encode_table.Tie as tie
 
 slice-aggregate-encode-filled : tie.Need-slice-aggregate-encode-filled
-slice-aggregate-encode-filled c = taken-counts _ _ (c .before .before .before .before .before .before .before .before .before .before .pre .1 .0 .0)
+slice-aggregate-encode-filled c = part-counts _ _ (c .before .before .before .before .before .before .before .before .before .before .pre .1 .0 .0)
 
 slice-aggregate-encode-filled-2 : tie.Need-slice-aggregate-encode-filled-2
-slice-aggregate-encode-filled-2 c = taken-counts _ _ (c .before .before .before .before .before .before .before .before .before .before .before .pre .1 .0 .1)
+slice-aggregate-encode-filled-2 c = part-counts _ _ (c .before .before .before .before .before .before .before .before .before .before .before .pre .1 .0 .1)
 
 slice-aggregate-encode-filled-3 : tie.Need-slice-aggregate-encode-filled-3
-slice-aggregate-encode-filled-3 c = taken-counts _ _ (c .before .before .before .before .before .before .before .before .before .before .before .before .pre .1 .0 .2)
+slice-aggregate-encode-filled-3 c = part-counts _ _ (c .before .before .before .before .before .before .before .before .before .before .before .before .pre .1 .0 .2)
 
 slice-aggregate-encode-filled-4 : tie.Need-slice-aggregate-encode-filled-4
-slice-aggregate-encode-filled-4 c = taken-counts _ _ (c .before .before .before .before .before .before .before .before .before .before .before .before .before .pre .1 .0 .3)
+slice-aggregate-encode-filled-4 c = part-counts _ _ (c .before .before .before .before .before .before .before .before .before .before .before .before .before .pre .1 .0 .3)
 
 slice-aggregate-encode-filled-5 : tie.Need-slice-aggregate-encode-filled-5
-slice-aggregate-encode-filled-5 c = taken-counts _ _ (c .before .before .before .before .before .before .before .before .before .before .before .before .before .before .pre .1 .0 .4)
+slice-aggregate-encode-filled-5 c = part-counts _ _ (c .before .before .before .before .before .before .before .before .before .before .before .before .before .before .pre .1 .0 .4)
 
 encode-filled-requires : tie.Need-encode-filled-requires
 encode-filled-requires c κs = (c .before .before .before .before .before .before .before .before .before .before .before .before .before .before .before .before .pre .0, c .before .before .before .before .before .before .before .before .before .before .before .before .before .before .before .before .pre .1 .1)

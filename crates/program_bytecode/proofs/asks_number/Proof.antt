@@ -4,14 +4,14 @@ use borrow.Author.Needs.{needs}
 use Rattle.program_bytecode.proofs.asks_number.Statement.{statement}
 use Rattle.program_bytecode.proofs.asks_number.Tie as tie
 
-returns : tie.Need-returns
-returns c = search asks-none
-
 has-second-requires : tie.Need-has-second-requires
 has-second-requires c κs = search needs
 
+returns : tie.Need-returns
+returns c = search asks-second
+
 returns-2 : tie.Need-returns-2
-returns-2 c = search asks-second
+returns-2 c = search asks-none
 
 pub asks-number-spec : {M : Type 1} → statement M
-asks-number-spec = tie.close (tie.spec returns has-second-requires returns-2)
+asks-number-spec = tie.close (tie.spec has-second-requires returns returns-2)

@@ -1,4 +1,5 @@
-use Rattle.relocate_walk.proofs.Laws.{part-counts, walk-laws}
+use Rattle.text.proofs.Laws.{part-counts}
+use Rattle.relocate_walk.proofs.Laws.{walk-laws}
 use borrow.Author.Needs.{needs}
 use Rattle.relocate_walk.proofs.sorted_row.Statement.{statement}
 use Rattle.relocate_walk.proofs.sorted_row.Tie as tie

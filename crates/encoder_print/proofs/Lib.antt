@@ -1,0 +1,3 @@
+pub mod LeftLaws
+pub mod Laws
+pub mod SourceLaws
