@@ -33,8 +33,12 @@ use Rattle.asm.specs.declared.LineRead.the-variants.{Blank, Row, Unreada
 
 -- ---- instruction rows
 
+-- an instruction row from its operation and operands
+abbrev pub instructionRow : OlaOpcode → OlaAsmOperand → OlaAsmOperand → OlaAsmOperand → OlaAsmInstruction
+instructionRow o op0 op1 dst = record { opcode = o; op0 = op0; op1 = op1; dst = dst }
+
 abbrev pub instruction : OlaOpcode → OlaAsmOperand → OlaAsmOperand → OlaAsmOperand → RowRead
-instruction o op0 op1 dst = Is (Instruction (record { opcode = o; op0 = op0; op1 = op1; dst = dst }))
+instruction o op0 op1 dst = Is (Instruction (instructionRow o op0 op1 dst))
 
 -- operands put into the places of the operation's row, where there are as many as it has; mload's memory operand stands in op1,
 -- mstore's in op0 with the value in op1

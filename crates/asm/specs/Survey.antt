@@ -18,6 +18,7 @@ use Rattle.asm.specs.declared.AsmRow.{AsmRow}
 use Rattle.asm.specs.declared.AsmRow.the-variants.{Instruction, LabelCall, LabelJmp, LabelProphet}
 use Rattle.asm.specs.declared.PlaceFound.{PlaceFound}
 use Rattle.asm.specs.declared.PlaceFound.the-variants.{At, Nothing}
+use Rattle.asm.specs.declared.RowCount.{RowCount}
 use Rattle.asm.specs.declared.Tally.{Tally}
 use Rattle.asm.specs.declared.Surveyed.{Surveyed}
 use Rattle.asm.specs.declared.Surveyed.the-variants.{Is, Unreadable}
@@ -50,6 +51,10 @@ abbrev pub wordCount : OlaAsmInstruction → ℕ
 wordCount i = cond (isMemoryRow (rowPlaces (i .opcode)) || takesWord (i .op1)) 2 1
 
 -- ---- counts and places
+
+-- a count of rows as `RowCount` holds it
+abbrev pub rowCount : ℕ → RowCount
+rowCount n = record { 0 = n }
 
 abbrev pub isLabelRow : AsmRow → Bool
 isLabelRow (Instruction i) = false

@@ -4,6 +4,8 @@ use vm_hardware::OlaSpecialRegister;
 use vm_opcodes::OlaOpcode;
 use vm_operands::ImmediateValue;
 ghost use mathlib.Core.Path.{_≡_};
+ghost use Rattle.asm.specs.Rows.{instructionRow};
+ghost use Rattle.asm.specs.Survey.{rowCount};
 
 // A count of rows, the source's line_num: the detail of refusals 3, 10, 11 and 12. It is never added to a word address.
 pub struct RowCount(pub usize);
@@ -108,7 +110,7 @@ pub enum Surveyed {
 
 impl RowCount {
     pub fn new(rows: usize) -> Self
-        ensures { λ r. ⌜ r ≡ record { 0 = rows } ⌝ }
+        ensures { λ r. ⌜ r ≡ rowCount rows ⌝ }
     {
         Self(rows)
     }
@@ -121,7 +123,7 @@ impl OlaAsmInstruction {
         op1: OlaAsmOperand,
         dst: OlaAsmOperand,
     ) -> Self
-        ensures { λ r. ⌜ r ≡ record { opcode = opcode; op0 = op0; op1 = op1; dst = dst } ⌝ }
+        ensures { λ r. ⌜ r ≡ instructionRow opcode op0 op1 dst ⌝ }
     {
         Self {
             opcode,

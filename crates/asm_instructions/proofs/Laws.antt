@@ -1,17 +1,13 @@
--- Laws of a row's operands in their places and of its lengths, in the shapes in which the functions ask for them.
-use Prim.Native.Nat.{ℕ, _≤_}
+-- Laws of a row's operands in their places, in the shapes in which the functions ask for them.
 use mathlib.Core.Path.{_≡_, sym, ap, _∙_}
 use mathlib.Core.List.{List}
 use mathlib.Core.Option.{some}
-use native.Mathlib.Omega.{arith}
-use lib.Dec.{lit≤}
 use Rattle.vm_opcodes.specs.Operations.{rowPlaces}
 use Rattle.vm_opcodes.specs.declared.OlaOpcode.{OlaOpcode}
 use Rattle.vm_opcodes.specs.declared.OpcodeFound.the-variants.{Is as IsOpcode}
 use Rattle.vm_opcodes.specs.declared.RowPlaces.{RowPlaces}
-use Rattle.asm.specs.Rows.{arranged, arrangedIf, counted}
+use Rattle.asm.specs.Rows.{arranged, arrangedIf}
 use Rattle.asm.specs.declared.OlaAsmOperand.{OlaAsmOperand}
-use Rattle.asm.specs.declared.OlaAsmOperand.the-variants.{Empty, ImmediateOperand, RegisterOperand, RegisterWithOffset, RegisterWithFactoredRegOffset, SpecialReg, Label, Identifier}
 use Rattle.asm.specs.declared.RowRead.{RowRead}
 use Rattle.asm.specs.declared.RowRead.the-variants.{Unreadable}
 use Rattle.asm_instructions.specs.Listed.{listed}
@@ -32,17 +28,3 @@ module _ (o : OlaOpcode) where
   pub told-other : (v : RowOperands) → v ≡ Other → Unreadable ≡ arrangedIf (IsOpcode o) (listed v)
   unfolding arrangedIf
   told-other v e = rw e
-
--- an operand adds at most one to a counted length
-pub counted-le : (x : OlaAsmOperand) → counted x ≤ 1
-counted-le Empty = lit≤ tt
-counted-le (ImmediateOperand v) = lit≤ tt
-counted-le (RegisterOperand a) = lit≤ tt
-counted-le (RegisterWithOffset a v) = lit≤ tt
-counted-le (RegisterWithFactoredRegOffset a b v) = lit≤ tt
-counted-le (SpecialReg b) = lit≤ tt
-counted-le (Label start n) = lit≤ tt
-counted-le (Identifier start n) = lit≤ tt
-
-pub told-counted : (n : ℕ) (x : OlaAsmOperand) → n ≡ counted x → n ≤ 1
-told-counted n x e = omega (arith, counted-le x)

@@ -51,8 +51,8 @@ fn with_instruction(found: Tally, instruction: OlaAsmInstruction) -> Tally
     requires { ⌜ Small found 9223372036854775807 ⌝ }
     ensures { λ r. ⌜ r ≡ joined found (tallyOf [] (Instruction instruction ∷ [])) ⌝ }
 {
-    let counted = asm_instructions::binary_length(instruction);
-    let words = asm_instructions::word_count(instruction);
+    let counted = asm_lengths::binary_length(instruction);
+    let words = asm_lengths::word_count(instruction);
     let call = found.call;
     let main = found.main;
     let end = found.end;

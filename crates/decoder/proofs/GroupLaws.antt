@@ -39,11 +39,11 @@ pub record Readable (i : BinaryInstruction) : Type 0 where
 
 -- ---- one group in front
 module _ {A : Type 0} (two : A → Bool) (a : A) where
-  grouped-one : (as′ : List A) → two a ≡ false → grouped two none (a ∷ as′) ≡ record { first = a; second = none } ∷ grouped two none as′
+  pub grouped-one : (as′ : List A) → two a ≡ false → grouped two none (a ∷ as′) ≡ record { first = a; second = none } ∷ grouped two none as′
   unfolding grouped
   grouped-one as′ h = rw h
 
-  grouped-two : (b : A) (as′ : List A) → two a ≡ true → grouped two none (a ∷ b ∷ as′) ≡ record { first = a; second = some b } ∷ grouped two none as′
+  pub grouped-two : (b : A) (as′ : List A) → two a ≡ true → grouped two none (a ∷ b ∷ as′) ≡ record { first = a; second = some b } ∷ grouped two none as′
   unfolding grouped
   grouped-two b as′ h = rw h
 

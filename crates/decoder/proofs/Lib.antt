@@ -4,3 +4,4 @@ pub mod LineLaws
 pub mod GroupLaws
 pub mod RunLaws
 pub mod Cases
+pub mod OffsetLaws

@@ -1,4 +1,5 @@
 // Bytecode read back into instructions: core/src/program/decoder.rs.
+use program::BinaryInstruction;
 
 // Why a bytecode is not opened.
 pub enum OpenRefusal {
@@ -21,4 +22,29 @@ pub enum NextRefusal {
     Open(OpenRefusal),
     // 20: none complete left.
     NoneLeft,
+}
+
+// Whether a bytecode opens.
+pub enum Opening {
+    Accepted,
+    Refused(OpenRefusal),
+}
+
+// What asking for the next instruction finds.
+pub enum Found {
+    Is(BinaryInstruction),
+    Refused(NextRefusal),
+}
+
+// What a call of next on a text and a line answers, and the line reached: the same line after a refusal.
+pub struct LineStep {
+    pub found: Found,
+    pub line: usize,
+}
+
+// What a call of next on a text and an offset answers: how many lines were read, none after a refusal, and the offset of the line after them.
+pub struct StepAt {
+    pub found: Found,
+    pub lines: usize,
+    pub offset: usize,
 }

@@ -19,13 +19,14 @@ use Rattle.asm.specs.Rows.{arranged, operandsOf, arrangedIf, isCallRow, isPairR
 use Rattle.relocate.specs.Scopes.{cutAtCalls, scopesThat, rowsOfScopes}
 use Rattle.relocate.specs.Labels.{labelRows, holder}
 use Rattle.relocate.specs.Prophets.{withoutLastEmpty, labelsAfterHead, listedLabels, hostsFrom, isIn, keptFrom}
+use Rattle.relocate.specs.Columns.{tableLeft}
 use Rattle.relocate.specs.Relocate.{firstAbove127, rowsRead, sortedOf, tabled, hostsOf}
 use Rattle.relocate.specs.declared.LabelEntry.{LabelEntry}
 use Rattle.program.specs.Words.{programWords}
 use Rattle.program.specs.Groups.{grouped}
 use Rattle.program.specs.Bytecode.{linesOfGroups}
 use Rattle.encoder.specs.Canonical.{general, memory, canonicalBy, canonicalFrom, firstMisplaced}
-use Rattle.encoder.specs.Assemble.{Room, Accepted, encodedRows, assembled, assembledTotals, tableLeft, wordsLeft, hostsLeft}
+use Rattle.encoder.specs.Assemble.{Room, Accepted, encodedRows, assembled, assembledTotals, wordsLeft, hostsLeft}
 use Rattle.encoder.specs.Printing.{numberedLines, printing}
 use Rattle.encoder.specs.declared.Totals.{Totals}
 

@@ -6,10 +6,9 @@ use lib.Dec.{ltb}
 use lib.ListN.{length}
 use Rattle.text.specs.Answer.{Answer, ok, refused, _>>=_, _>>_, refuseIf, refuseAt, over, onOk}
 use Rattle.asm.specs.declared.AsmRow.{AsmRow}
-use Rattle.relocate.specs.Labels.{labelRows, tableOf}
+use Rattle.relocate.specs.Labels.{labelRows}
 use Rattle.relocate.specs.Prophets.{keptCount}
 use Rattle.relocate.specs.Relocate.{tabled, hostsOf, relocateNumber, relocateDetail}
-use Rattle.relocate.specs.declared.LabelEntry.{LabelEntry}
 use Rattle.program.specs.Words.{programWords}
 use Rattle.program.specs.declared.BinaryInstruction.{BinaryInstruction}
 use Rattle.encoder.specs.Canonical.{canonicalProgram, firstMisplaced}
@@ -74,10 +73,6 @@ unfoldable pub assembledTotals : List ℕ → List ℕ → Room → Answer Total
 assembledTotals s prophets room = assembled s prophets room >>= λ a. ok (totalsOf a)
 
 -- ---- what stands in the lent buffers afterwards
-
--- "Refusals up to 7 in this order leave the table untouched, those after 7 leave it filled"
-abbrev pub tableLeft : List ℕ → List LabelEntry → List LabelEntry
-tableLeft s table = onOk (tabled s (length table)) (λ rows. over (tableOf rows) table) table
 
 -- "A refusal leaves the word, host ... buffers unchanged"
 abbrev pub wordsLeft : Answer Accepted → List ℕ → List ℕ

@@ -1,7 +1,6 @@
 // Names resolved, the canonical program and assembling: assembler/src/encoder.rs.
 use asm::RowCount;
 use relocate::RelocateRefusal;
-ghost use mathlib.Core.Path.{_≡_};
 
 // Why a source is not assembled.
 pub enum AssembleRefusal {
@@ -29,17 +28,4 @@ pub struct Totals {
 pub enum Assembly {
     Refused(AssembleRefusal),
     Assembled(Totals),
-}
-
-impl Totals {
-    pub fn new(labels: usize, words: usize, hosts: usize, kept: usize) -> Self
-        ensures { λ r. ⌜ r ≡ record { labels = labels; words = words; hosts = hosts; kept = kept } ⌝ }
-    {
-        Self {
-            labels,
-            words,
-            hosts,
-            kept,
-        }
-    }
 }

@@ -43,11 +43,12 @@ use Rattle.encoder_canonical.proofs.HeldLaws.{held-program}
 use Rattle.encoder_canonical.proofs.WordLaws.{program-words}
 use Rattle.encoder_walks.specs.Walks.{heldCount}
 use Rattle.encoder_walks.proofs.ProgramLaws.{placeFound, held-misplaced}
+use Rattle.encoder_checks.specs.Checked.{placeOption, checkedNumbered, checkedOf}
+use Rattle.encoder_checks.specs.declared.Checked.{Checked}
+use Rattle.encoder_checks.specs.declared.Checked.the-variants.{Is, Refused}
+use Rattle.encoder_checks.proofs.StageLaws.{hostsIn, stages-together}
 use Rattle.encoder_assemble.specs.Written.{heldWords}
-use Rattle.encoder_assemble.specs.Checked.{placeOption, checkedNumbered, checkedOf, encodedTotals}
-use Rattle.encoder_assemble.specs.declared.Checked.{Checked}
-use Rattle.encoder_assemble.specs.declared.Checked.the-variants.{Is, Refused}
-use Rattle.encoder_assemble.proofs.StageLaws.{hostsIn, stages-together}
+use Rattle.encoder_assemble.specs.Encoded.{encodedTotals}
 use Rattle.encoder_assemble.proofs.WriteLaws.{held-words}
 
 same-place : (o : Option ℕ) → placeOption (placeFound o) ≡ o

@@ -1,3 +1,2 @@
 pub mod WriteLaws
-pub mod StageLaws
 pub mod FilledLaws

@@ -1,16 +1,13 @@
 // Assembling over parallel slices: `encode_to_binary` of assembler/src/encoder.rs, each step a function of its own.
-use asm::PlaceFound;
-use asm::RowCount;
 use encoder::AssembleRefusal;
 use encoder::Assembly;
 use encoder::Totals;
 use encoder_canonical::CanonicalLine;
-use encoder_walks::Resolution;
+use encoder_checks::Checked;
 use program::BinaryInstruction;
 use program::SecondWord;
 use relocate::Layout;
 use relocate::Measured;
-use relocate::ProphetsListed;
 ghost use mathlib.Core.Path.{_≡_};
 ghost use Prim.Native.Nat.{_+_, _≤_};
 ghost use lib.ListN.{length, take};
@@ -28,13 +25,7 @@ ghost use Rattle.relocate_names.specs.Shortest.{shortestOf};
 ghost use Rattle.encoder.specs.declared.Assembly.the-variants.{Assembled};
 ghost use Rattle.encoder.specs.Assemble.{numbered, encodedRows, assembled, assembledTotals, wordsLeft, hostsLeft};
 ghost use Rattle.encoder_assemble.specs.Written.{heldWords};
-ghost use Rattle.encoder_assemble.specs.Checked.{checkedNumbered, rowsChecked, checkedOf, encodedTotals};
-
-// How many prophets are listed, where refusals 8 to 13 turn nothing away.
-pub enum Checked {
-    Is(usize),
-    Refused(AssembleRefusal),
-}
+ghost use Rattle.encoder_assemble.specs.Encoded.{encodedTotals};
 
 // Writes the words of an instruction from place n on, and answers the place after them.
 fn put_words(instruction: BinaryInstruction, n: usize, words: &mut [u64]) -> usize
@@ -42,8 +33,8 @@ fn put_words(instruction: BinaryInstruction, n: usize, words: &mut [u64]) -> usi
     ensures { λ r. ⌜ r ≡ n + length (wordsOf instruction) ⌝ }
     ensures { λ _. ⌜ now (words .exit) ≡ sets (now (words .entry)) n (wordsOf instruction) ⌝ }
 {
-    words[n] = program_encode::first_word(instruction);
-    match program_encode::second_word(instruction) {
+    words[n] = program_words::first_word(instruction);
+    match program_words::second_word(instruction) {
         SecondWord::Number(number) => {
             words[n + 1] = number;
             n + 2
@@ -95,109 +86,12 @@ fn write_words(
     }
 }
 
-// Refusals 10 to 13 of a source whose label table is filled and whose list names so many prophets.
-fn check_rows(
-    source: &[u8],
-    kinds: &[u8],
-    mapped: &[bool],
-    starts: &[usize],
-    lengths: &[usize],
-    addresses: &[u64],
-    layout: Layout,
-    wordroom: usize,
-    hostroom: usize,
-    hosts: usize,
-) -> Checked
-    ensures { λ r. ⌜ checkedNumbered r ≡ rowsChecked (now (source .entry)) (entriesOf (now (kinds .entry)) (now (mapped .entry)) (now (starts .entry)) (now (lengths .entry)) (now (addresses .entry))) layout wordroom hostroom hosts ⌝ }
-{
-    let start = layout.start;
-    let end = layout.end;
-    let resolved = encoder_walks::resolve(
-        source,
-        kinds,
-        mapped,
-        starts,
-        lengths,
-        addresses,
-        start,
-        end,
-    );
-    match resolved {
-        Resolution::Refused(refusal) => return Checked::Refused(refusal),
-        Resolution::Is(n) => {}
-    }
-    let place = encoder_walks::misplaced(
-        source,
-        kinds,
-        mapped,
-        starts,
-        lengths,
-        addresses,
-        start,
-        end,
-    );
-    match place {
-        PlaceFound::At(k) => {
-            return Checked::Refused(AssembleRefusal::NumberMisplaced(RowCount::new(k)));
-        }
-        PlaceFound::Nothing => {}
-    }
-    if wordroom < layout.words {
-        return Checked::Refused(AssembleRefusal::RoomTooShort);
-    }
-    if hostroom < hosts {
-        return Checked::Refused(AssembleRefusal::RoomTooShort);
-    }
-    Checked::Is(hosts)
-}
-
-// Refusals 8 to 13 of a source whose label table is filled.
-fn check_all(
-    source: &[u8],
-    prophets: &[u8],
-    kinds: &[u8],
-    mapped: &[bool],
-    starts: &[usize],
-    lengths: &[usize],
-    addresses: &[u64],
-    layout: Layout,
-    wordroom: usize,
-    hostroom: usize,
-) -> Checked
-    ensures { λ r. ⌜ checkedNumbered r ≡ checkedOf (now (source .entry)) (now (prophets .entry)) (entriesOf (now (kinds .entry)) (now (mapped .entry)) (now (starts .entry)) (now (lengths .entry)) (now (addresses .entry))) layout wordroom hostroom ⌝ }
-{
-    let listed = relocate_prophets::check_prophets(
-        source,
-        prophets,
-        kinds,
-        mapped,
-        starts,
-        lengths,
-        addresses,
-    );
-    match listed {
-        ProphetsListed::Refused(refusal) => { Checked::Refused(AssembleRefusal::Relocate(refusal)) }
-        ProphetsListed::Is(hosts) => check_rows(
-            source,
-            kinds,
-            mapped,
-            starts,
-            lengths,
-            addresses,
-            layout,
-            wordroom,
-            hostroom,
-            hosts,
-        ),
-    }
-}
-
 // The counts of an accepted source, whose hosts are written.
 fn counts(layout: Layout, count: usize, hosts: &[u64]) -> Assembly
     requires { ⌜ count ≤ length (now hosts) ⌝ }
     ensures { λ r. ⌜ r ≡ Assembled (record { labels = layout .labels; words = layout .words; hosts = count; kept = keptCount (take count (now (hosts .entry))) }) ⌝ }
 {
-    let kept = relocate_names::kept_count(&hosts[..count]);
+    let kept = relocate_kept::kept_count(&hosts[..count]);
     Assembly::Assembled(Totals {
         labels: layout.labels,
         words: layout.words,
@@ -226,7 +120,7 @@ fn encode_filled(
     ensures { λ _. ⌜ now (words .exit) ≡ wordsLeft (encodedRows (now (source .entry)) (layoutRows (now (source .entry)) layout) (now (prophets .entry)) (record { entries = room; words = length (now (words .entry)); hosts = length (now (hosts .entry)) })) (now (words .entry)) ⌝ }
     ensures { λ _. ⌜ now (hosts .exit) ≡ hostsLeft (encodedRows (now (source .entry)) (layoutRows (now (source .entry)) layout) (now (prophets .entry)) (record { entries = room; words = length (now (words .entry)); hosts = length (now (hosts .entry)) })) (now (hosts .entry)) ⌝ }
 {
-    let found = check_all(
+    let found = encoder_checks::check_all(
         source,
         prophets,
         kinds,
@@ -304,6 +198,7 @@ fn encode_table(
 }
 
 // Assembles a source with a prophet list: the label table into the five slices, 7 where the shortest is too short, the words and the hosts.
+// Promises: counts-answered, words-left, same-words, same-bytecode, words-ahead, names-are-word-counts.
 pub fn assemble_parts(
     source: &[u8],
     prophets: &[u8],

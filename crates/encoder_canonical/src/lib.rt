@@ -6,8 +6,6 @@ use asm::OlaAsmInstruction;
 use asm::OlaAsmOperand;
 use program::BinaryInstruction;
 use relocate::AddressFound;
-use relocate::LabelEntry;
-use relocate::WordAddress;
 use vm_opcodes::OlaOpcode;
 use vm_opcodes::RowPlaces;
 use vm_operands::ImmediateValue;
@@ -60,14 +58,7 @@ fn look_up(
 ) -> Resolved
     ensures { λ r. ⌜ r ≡ heldNumber (heldAddress (now (source .entry)) kind (nameAt (now (source .entry)) start length) (entriesOf (now (kinds .entry)) (now (mapped .entry)) (now (starts .entry)) (now (lengths .entry)) (now (addresses .entry)))) ⌝ }
 {
-    let place = LabelEntry {
-        kind,
-        mapped: true,
-        start,
-        length,
-        address: WordAddress::new(0),
-    };
-    let name = relocate_names::label_name(source, place);
+    let name = relocate_names::name_at(source, start, length);
     let found = relocate_names::held_address(
         source,
         kinds,

@@ -37,32 +37,32 @@ two-long a b =
     omega arith
 
 -- write_row and write_pair: d is the text, u what it holds when a is written, v when b is
-module _ (d a b : List ℕ) (at : ℕ) (h : at + length (twoFields a b) ≤ length d) where
+module _ (d a b : List ℕ) (at : ℕ) (h : at + length a + length b + 2 ≤ length d) where
   pub first-within : at + length a ≤ length d
-  first-within = let z = two-long a b in omega arith
+  first-within = omega arith
 
   module _ (u : List ℕ) (space : ℕ) (e : u ≡ sets d at a) (f : space ≡ at + length a) where
     kept-long : length u ≡ length d
     kept-long = ap length e ∙ length-sets d at a
 
     pub space-within : space < length u
-    space-within = let z = two-long a b in let y = kept-long in omega arith
+    space-within = let z = kept-long in omega arith
 
     pub space-fits : length d * 1 < 2 ^ 63 → Fits w64 (space + 1)
-    space-fits l = let z = two-long a b in omega arith
+    space-fits l = omega arith
 
     pub second-within : (space + 1) + length b ≤ length (set u space 32)
-    second-within = let z = two-long a b in let y = kept-long in simp length-set (omega arith)
+    second-within = let z = kept-long in simp length-set (omega arith)
 
     module _ (v : List ℕ) (feed : ℕ) (k : v ≡ sets (set u space 32) (space + 1) b) (l : feed ≡ (space + 1) + length b) where
       written-long : length v ≡ length d
       written-long = ap length k ∙ length-sets (set u space 32) (space + 1) b ∙ length-set u space 32 ∙ kept-long
 
       pub feed-within : feed < length v
-      feed-within = let z = two-long a b in let y = written-long in omega arith
+      feed-within = let z = written-long in omega arith
 
       pub feed-fits : length d * 1 < 2 ^ 63 → Fits w64 (feed + 1)
-      feed-fits m = let z = two-long a b in omega arith
+      feed-fits m = omega arith
 
       pub fields-kept : length (set v feed 10) ≡ length d
       fields-kept = length-set v feed 10 ∙ written-long
@@ -83,11 +83,10 @@ module _ (d a b : List ℕ) (at : ℕ) (h : at + length (twoFields a b) ≤ leng
 pub ruleset fields-laws = (first-within, space-within, space-fits, second-within, feed-within, feed-fits, fields-kept, fields-end, fields-stored, needs)
 
 -- ---- row_length: a row has at most 40 bytes
-pub row-within : (d : List ℕ) (k w : ℕ) (number : Bool) → k < 2 ^ 64 → w < 2 ^ 64 → length d ≡ 40 → 0 + length (rowText k number w) ≤ length d
+pub row-within : (d : List ℕ) (k w : ℕ) (number : Bool) → k < 2 ^ 64 → w < 2 ^ 64 → length d ≡ 40 → 0 + length (decimalText k) + length (lineText number w) + 2 ≤ length d
 row-within d k w number h l m =
-    let z = two-long (decimalText k) (lineText number w) in
-    let y = decimal-most k h in
-    let x = line-most number w l in
+    let z = decimal-most k h in
+    let y = line-most number w l in
     omega arith
 
 pub ruleset row-laws = (row-within, needs)
@@ -129,8 +128,8 @@ module _ (s : List ℕ) (i : ℕ) (number : Bool) where
       row-over n h f l = let z = next-long h in sym (lt-leb (start + length (rowsLeft 0 false s)) room (omega arith))
 
     -- word i's row lies within a text that has room for all
-    pub row-inside : (d t : List ℕ) → i < length s → start + length (rowsLeft 0 false s) ≤ length d → length t ≡ length d → at + length (rowText i number (getD s i 0)) ≤ length t
-    row-inside d t h l m = let z = next-long h in omega arith
+    pub row-inside : (d t : List ℕ) → i < length s → start + length (rowsLeft 0 false s) ≤ length d → length t ≡ length d → at + length (decimalText i) + length (lineText number (getD s i 0)) + 2 ≤ length t
+    row-inside d t h l m = let z = next-long h in let y = two-long (decimalText i) (lineText number (getD s i 0)) in omega arith
 
   -- ---- write_rows: t is the text d when the rows before word i's are written
   module _ (d t : List ℕ) (start at : ℕ) (e : sets d start (rowsLeft 0 false s) ≡ sets t at (rowsLeft i number (drop i s))) where
@@ -225,22 +224,23 @@ pub ruleset words-laws = (words-short, words-kept, words-counted, words-inside, 
 abbrev refusalHead : List ℕ
 refusalHead = twoFields (bytes "refusal") (bytes "detail")
 
-refusal-long : (n m : ℕ) → length (reported (refused n m)) ≡ 15 + length (twoFields (decimalText n) (decimalText m))
-refusal-long n m = length-append refusalHead (twoFields (decimalText n) (decimalText m))
+refusal-long : (n m : ℕ) → length (reported (refused n m)) ≡ 15 + length (decimalText n) + length (decimalText m) + 2
+refusal-long n m =
+    let z = length-append refusalHead (twoFields (decimalText n) (decimalText m)) in
+    let y = two-long (decimalText n) (decimalText m) in
+    omega arith
 
 module _ (d : List ℕ) (n m : ℕ) where
   -- a refusal's report has at most 57 bytes
-  pub refusal-within : n < 2 ^ 64 → m < 2 ^ 64 → length d ≡ 57 → length (reported (refused n m)) ≤ length d
+  pub refusal-within : n < 2 ^ 64 → m < 2 ^ 64 → length d ≡ 57 → 15 + length (decimalText n) + length (decimalText m) + 2 ≤ length d
   refusal-within h k l =
-      let z = refusal-long n m in
-      let y = two-long (decimalText n) (decimalText m) in
-      let x = decimal-most n h in
-      let w = decimal-most m k in
+      let z = decimal-most n h in
+      let y = decimal-most m k in
       omega arith
 
-  module _ (u : List ℕ) (h : length (reported (refused n m)) ≤ length d) (f : u ≡ putInto d 0 (twoFields (bytes "refusal") (bytes "detail"))) where
+  module _ (u : List ℕ) (h : 15 + length (decimalText n) + length (decimalText m) + 2 ≤ length d) (f : u ≡ putInto d 0 (twoFields (bytes "refusal") (bytes "detail"))) where
     pub refusal-stored : (b : List ℕ) → b ≡ sets u 15 (twoFields (decimalText n) (decimalText m)) → b ≡ sets d 0 (reported (refused n m))
-    refusal-stored b g = g ∙ head-stored d u refusalHead (twoFields (decimalText n) (decimalText m)) f h
+    refusal-stored b g = g ∙ head-stored d u refusalHead (twoFields (decimalText n) (decimalText m)) f (let z = refusal-long n m in omega arith)
 
 pub ruleset refusal-laws = (refusal-stored, needs)
 
@@ -251,10 +251,13 @@ module _ (d : List ℕ) (n m k : ℕ) (e : k ≡ length (reported (refused n m))
   pub refusal-kept : length d < k → d ≡ printedInto (reported (refused n m)) d
   refusal-kept h = short-kept d (reported (refused n m)) (omega arith)
 
+  pub refusal-inside : k ≤ length d → 15 + length (decimalText n) + length (decimalText m) + 2 ≤ length d
+  refusal-inside h = let z = refusal-long n m in omega arith
+
   pub refusal-counted : k ≤ length d → printedNumbered (Is k) ≡ printedCount (length d) (reported (refused n m))
   refusal-counted h = ap ok e ∙ room-count d (reported (refused n m)) (omega arith)
 
   pub refusal-printed : (b : List ℕ) → k ≤ length d → b ≡ sets d 0 (reported (refused n m)) → b ≡ printedInto (reported (refused n m)) d
   refusal-printed b h g = g ∙ room-stored d (reported (refused n m)) (omega arith)
 
-pub ruleset print-laws = (refusal-within, refusal-short, refusal-kept, refusal-counted, refusal-printed, needs)
+pub ruleset print-laws = (refusal-within, refusal-short, refusal-kept, refusal-inside, refusal-counted, refusal-printed, needs)

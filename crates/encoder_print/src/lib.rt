@@ -1,7 +1,5 @@
 // What the printing program prints, written into a lent text: `printing` of crate encoder's definitions.
-use encoder::AssembleRefusal;
 use encoder::Assembly;
-use relocate::RelocateRefusal;
 use text_write::Put;
 ghost use mathlib.Core.Path.{_≡_};
 ghost use mathlib.Core.Bool.{false};
@@ -12,8 +10,6 @@ ghost use lib.Seq.{sets};
 ghost use Rattle.text.specs.Answer.{refused};
 ghost use Rattle.text_write.specs.Digits.{decimalText};
 ghost use Rattle.program_bytecode.specs.Left.{lineText};
-ghost use Rattle.relocate.specs.Relocate.{relocateNumber, relocateDetail};
-ghost use Rattle.encoder.specs.Assemble.{assembleNumber, assembleDetail};
 ghost use Rattle.encoder.specs.Printing.{reported, twoFields, printing};
 ghost use Rattle.encoder_print.specs.Left.{rowText, rowsLeft};
 ghost use Rattle.encoder_print.specs.Printed.{printedNumbered, printedCount, printedInto, reportedWords, wordCount, reportedAssembly};
@@ -28,66 +24,6 @@ pub enum Printed {
 const WORDS_HEAD: [u8; 13] = *b"address word\n";
 
 const REFUSAL_HEAD: [u8; 15] = *b"refusal detail\n";
-
-// The number of a refusal from 1 to 9.
-fn relocate_number(refusal: RelocateRefusal) -> u64
-    ensures { λ r. ⌜ r ≡ relocateNumber refusal ⌝ }
-{
-    match refusal {
-        RelocateRefusal::SourceTooLong => 1,
-        RelocateRefusal::ByteAbove127(offset) => 2,
-        RelocateRefusal::UnreadableRow(rows) => 3,
-        RelocateRefusal::NoRow => 4,
-        RelocateRefusal::NoMain => 5,
-        RelocateRefusal::TwoMains => 6,
-        RelocateRefusal::TableTooShort => 7,
-        RelocateRefusal::ProphetListMalformed => 8,
-        RelocateRefusal::ProphetUnknown(index) => 9,
-    }
-}
-
-// And its detail.
-fn relocate_detail(refusal: RelocateRefusal) -> u64
-    ensures { λ r. ⌜ r ≡ relocateDetail refusal ⌝ }
-{
-    match refusal {
-        RelocateRefusal::SourceTooLong => 0,
-        RelocateRefusal::ByteAbove127(offset) => offset as u64,
-        RelocateRefusal::UnreadableRow(rows) => rows.0 as u64,
-        RelocateRefusal::NoRow => 0,
-        RelocateRefusal::NoMain => 0,
-        RelocateRefusal::TwoMains => 0,
-        RelocateRefusal::TableTooShort => 0,
-        RelocateRefusal::ProphetListMalformed => 0,
-        RelocateRefusal::ProphetUnknown(index) => index as u64,
-    }
-}
-
-// The number of a refusal.
-pub fn refusal_number(refusal: AssembleRefusal) -> u64
-    ensures { λ r. ⌜ r ≡ assembleNumber refusal ⌝ }
-{
-    match refusal {
-        AssembleRefusal::Relocate(inner) => relocate_number(inner),
-        AssembleRefusal::NameUnknown(index) => 10,
-        AssembleRefusal::MemoryOperand(index) => 11,
-        AssembleRefusal::NumberMisplaced(index) => 12,
-        AssembleRefusal::RoomTooShort => 13,
-    }
-}
-
-// The detail of a refusal, 0 where none is named.
-pub fn refusal_detail(refusal: AssembleRefusal) -> u64
-    ensures { λ r. ⌜ r ≡ assembleDetail refusal ⌝ }
-{
-    match refusal {
-        AssembleRefusal::Relocate(inner) => relocate_detail(inner),
-        AssembleRefusal::NameUnknown(index) => index.0 as u64,
-        AssembleRefusal::MemoryOperand(index) => index.0 as u64,
-        AssembleRefusal::NumberMisplaced(index) => index.0 as u64,
-        AssembleRefusal::RoomTooShort => 0,
-    }
-}
 
 // Writes a number in decimal digits where it fits, and says where it ends.
 fn write_decimal(text: &mut [u8], at: usize, number: u64) -> usize
@@ -115,7 +51,7 @@ fn write_line(text: &mut [u8], at: usize, number: bool, word: u64) -> usize
 
 // Writes a word's row where it fits: its position, a space, its line, a line feed; and says where it ends.
 fn write_row(text: &mut [u8], at: usize, position: usize, number: bool, word: u64) -> usize
-    requires { ⌜ at + length (rowText position number word) ≤ length (now text) ⌝ }
+    requires { ⌜ at + length (decimalText position) + length (lineText number word) + 2 ≤ length (now text) ⌝ }
     ensures { λ r. ⌜ (r ≡ at + length (rowText position number word)) × (now (text .exit) ≡ sets (now (text .entry)) at (rowText position number word)) ⌝ }
 {
     let space = write_decimal(text, at, position as u64);
@@ -127,7 +63,7 @@ fn write_row(text: &mut [u8], at: usize, position: usize, number: bool, word: u6
 
 // Writes two numbers where they fit, a space between them and a line feed behind; and says where they end.
 fn write_pair(text: &mut [u8], at: usize, number: u64, detail: u64) -> usize
-    requires { ⌜ at + length (twoFields (decimalText number) (decimalText detail)) ≤ length (now text) ⌝ }
+    requires { ⌜ at + length (decimalText number) + length (decimalText detail) + 2 ≤ length (now text) ⌝ }
     ensures { λ r. ⌜ (r ≡ at + length (twoFields (decimalText number) (decimalText detail))) × (now (text .exit) ≡ sets (now (text .entry)) at (twoFields (decimalText number) (decimalText detail))) ⌝ }
 {
     let space = write_decimal(text, at, number);
@@ -200,7 +136,7 @@ pub fn print_words(words: &[u64], text: &mut [u8]) -> Printed
 
 // Writes the report of a refusal where it fits, and says how many bytes it has.
 fn write_refusal(number: u64, detail: u64, text: &mut [u8]) -> usize
-    requires { ⌜ length (reported (refused number detail)) ≤ length (now text) ⌝ }
+    requires { ⌜ 15 + length (decimalText number) + length (decimalText detail) + 2 ≤ length (now text) ⌝ }
     ensures { λ r. ⌜ (r ≡ length (reported (refused number detail))) × (now (text .exit) ≡ sets (now (text .entry)) 0 (reported (refused number detail))) ⌝ }
 {
     text_write::put_bytes(text, 0, &REFUSAL_HEAD);
@@ -229,7 +165,9 @@ fn print_assembly(found: Assembly, words: &[u64], text: &mut [u8]) -> Printed
 {
     match found {
         Assembly::Refused(refusal) => {
-            print_refusal(refusal_number(refusal), refusal_detail(refusal), text)
+            let number = encoder_refusals::refusal_number(refusal);
+            let detail = encoder_refusals::refusal_detail(refusal);
+            print_refusal(number, detail, text)
         }
         Assembly::Assembled(totals) => {
             let n = totals.words;

@@ -3,6 +3,7 @@ use vm_hardware::Place;
 use vm_opcodes::OlaOpcode;
 use vm_operands::OlaOperand;
 ghost use mathlib.Core.Path.{_≡_};
+ghost use Rattle.program.specs.Instructions.{made};
 
 // An instruction: its operation and the contents of its three places.
 pub struct BinaryInstruction {
@@ -53,7 +54,7 @@ impl BinaryInstruction {
     pub const BIT_SHIFT_OP1_IMM: u64 = 62;
 
     pub fn new(opcode: OlaOpcode, op0: OlaOperand, op1: OlaOperand, dst: OlaOperand) -> Self
-        ensures { λ r. ⌜ r ≡ record { opcode = opcode; op0 = op0; op1 = op1; dst = dst } ⌝ }
+        ensures { λ r. ⌜ r ≡ made opcode op0 op1 dst ⌝ }
     {
         Self {
             opcode,

@@ -5,12 +5,13 @@ use mathlib.Core.List.{List, [], _∷_}
 use mathlib.Core.Bool.{Bool, true, false}
 use mathlib.Core.Option.{some}
 use native.Mathlib.Omega.{arith}
-use lib.ListN.{length, take}
+use lib.ListN.{length, take, replicate}
 use Rattle.text.specs.Bytes.{bytes, isSpace, isDigit, isLetter, isWord, same}
 use Rattle.text.specs.Lists.{total}
 use Rattle.text.specs.Scan.{scan, all, parts}
 use Rattle.text.specs.Answer.{Answer, ok, refused, _>>=_, _>>_, refuseIf, refuseAt}
 use Rattle.text_read.specs.Numerals.{digitValue, valueFrom, numeral}
+use Rattle.text_write.specs.Digits.{digitsOf, digitCount}
 use Rattle.vm_opcodes.specs.Operations.{operations, firstOperation}
 use Rattle.vm_opcodes.specs.declared.OlaOpcode.the-variants.{MOV, CALL, RET, END}
 use Rattle.vm_hardware.specs.Registers.{registers, registerOf, specialOf}
@@ -28,18 +29,20 @@ use Rattle.asm.specs.declared.AsmRow.{AsmRow}
 use Rattle.asm.specs.declared.AsmRow.the-variants.{Instruction, LabelCall, LabelProphet}
 use Rattle.relocate.specs.Scopes.{cutAtCalls, scopesThat, rowsOfScopes}
 use Rattle.relocate.specs.Labels.{LabelRow, callKind, labelRows, holder}
-use Rattle.relocate.specs.Prophets.{withoutLastEmpty, labelsAfterHead, listedLabels, hostsFrom}
+use Rattle.relocate.specs.Prophets.{withoutLastEmpty, labelsAfterHead, listedLabels, hostsFrom, keptFrom}
 use Rattle.relocate.specs.Relocate.{firstAbove127, rowsRead, sortedOf, tabled, hostsOf}
 use Rattle.program.specs.Instructions.{made, aNumber}
 use Rattle.program.specs.Words.{programWords, wordsBefore}
-use Rattle.program.specs.Bytecode.{bytecodeOf}
+use Rattle.program.specs.Groups.{grouped}
+use Rattle.program.specs.Bytecode.{linesOfGroups, joined, bytecodeOf, bytecodeWritten, textLeft}
 use Rattle.program.specs.declared.BinaryInstruction.{BinaryInstruction}
 use Rattle.encoder.specs.Canonical.{namesOf, holderOf, general, memory, canonicalBy, canonicalFrom, firstMisplaced}
-use Rattle.encoder.specs.Assemble.{Room, Accepted, encodedRows, assembled}
+use Rattle.encoder.specs.Assemble.{Room, Accepted, encodedRows, assembled, assembledTotals, wordsLeft}
 use Rattle.decoder.specs.Open.{opened, run}
+use Rattle.decoder.specs.Steps.{runAt, nthCall}
 use Rattle.promises.specs.Terms.{SameProgram, allClean}
 use Rattle.promises.specs.Starred.{plenty, printingSource}
-use Rattle.promises.specs.Promises.{same-words, same-bytecode, bytecode-opens, run-reads, words-ahead, names-are-word-counts}
+use Rattle.promises.specs.Promises.{counts-answered, words-left, bytecode-left, run-by-offsets, nth-reads, same-words, same-bytecode, bytecode-opens, run-reads, words-ahead, names-are-word-counts}
 
 -- ---- the printing source
 
@@ -68,6 +71,29 @@ printing-accepted = refl
 printing-run : run 6 (bytecodeOf (printingAccepted .words)) 0
     ≡ ok (made MOV Empty (aNumber 18446744069414584320) (RegisterOperand R1)) ∷ ok (made CALL Empty (aNumber 5) Empty) ∷ ok (made END Empty Empty Empty) ∷ ok (made RET Empty Empty Empty) ∷ refused 20 0 ∷ refused 20 0 ∷ []
 printing-run = run-reads printingSource [] plenty printingAccepted printing-accepted 6
+
+-- the same calls by offsets
+printing-offsets : runAt 6 (bytecodeOf (printingAccepted .words)) 0 ≡ run 6 (bytecodeOf (printingAccepted .words)) 0
+printing-offsets = run-by-offsets 6 (bytecodeOf (printingAccepted .words))
+
+-- the calls one by one: the second instruction, and 20 where there is none
+printing-second : nthCall (bytecodeOf (printingAccepted .words)) 1 ≡ ok (made CALL Empty (aNumber 5) Empty)
+printing-second = nth-reads printingSource [] plenty printingAccepted printing-accepted 1
+
+printing-fifth : nthCall (bytecodeOf (printingAccepted .words)) 4 ≡ refused 20 0
+printing-fifth = nth-reads printingSource [] plenty printingAccepted printing-accepted 4
+
+-- what a caller holds: the counts, and the six words in a slice of eight whose other two stay
+printing-counts : assembledTotals printingSource [] plenty ≡ ok (record { labels = 3; words = 6; hosts = 0; kept = 0 })
+unfolding keptFrom
+printing-counts = counts-answered printingSource [] plenty printingAccepted printing-accepted
+
+printing-words : take 6 (wordsLeft (assembled printingSource [] plenty) (replicate 8 9)) ≡ printingAccepted .words
+printing-words = words-left printingSource [] plenty printingAccepted printing-accepted (replicate 8 9)
+
+printing-text : take (length (bytecodeOf (printingAccepted .words))) (textLeft (bytecodeWritten (printingAccepted .words) 200) (replicate 200 0)) ≡ bytecodeOf (printingAccepted .words)
+unfolding grouped linesOfGroups joined digitsOf digitCount
+printing-text = bytecode-left printingSource [] plenty printingAccepted printing-accepted (replicate 200 0) (omega arith)
 
 printing-opens : opened (bytecodeOf (printingAccepted .words)) ≡ ok printingProgram
 printing-opens = bytecode-opens printingSource [] plenty printingAccepted printing-accepted

@@ -5,6 +5,7 @@ pub mod ReadingLaws
 pub mod NameLaws
 pub mod LengthLaws
 pub mod AcceptedLaws
+pub mod TieLaws
 pub mod SameLaws
 pub mod NamePromise
 pub mod Promises

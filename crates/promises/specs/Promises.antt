@@ -1,14 +1,15 @@
--- The promises: demand 3 as theorems about the definitions that the contracts cite. Each is proved in the file that it names.
+-- The promises: demand 3 as theorems about the definitions that the contracts cite. Each is proved in the file that it names, and names the public
+-- functions of whose contracts it speaks.
 -- A source is accepted where assembling it, with some prophets and some room, answers ok a: a .program is then its canonical program, made
 -- from its rows, a .words its words, and bytecodeOf (a .words) its bytecode.
-use Prim.Native.Nat.{ℕ, _-_}
+use Prim.Native.Nat.{ℕ, suc, _-_, _≤_}
 use mathlib.Core.Logic.{_↔_}
 use mathlib.Core.Path.{_≡_, sym, ap, subst, _∙_}
 use mathlib.Core.List.{List, _++_, map}
 use mathlib.Core.Bool.{true}
 use mathlib.Core.Option.{some}
-use lib.ListN.{length, take, replicate, getElem?}
-use Rattle.text.specs.Answer.{Answer, ok, refused}
+use lib.ListN.{length, take, getD, replicate, getElem?, length-map}
+use Rattle.text.specs.Answer.{Answer, ok, refused, _>>=_}
 use Rattle.vm_hardware.specs.declared.Place.{Place}
 use Rattle.asm.specs.Rows.{instructions}
 use Rattle.asm.specs.declared.OlaAsmOperand.the-variants.{Label, Identifier}
@@ -18,34 +19,63 @@ use Rattle.relocate.specs.Labels.{LabelRow, callKind, jmpKind}
 use Rattle.relocate.specs.Relocate.{sortedOf}
 use Rattle.program.specs.Instructions.{aNumber}
 use Rattle.program.specs.Words.{programWords, wordsBefore}
-use Rattle.program.specs.Bytecode.{bytecodeOf}
+use Rattle.program.specs.Bytecode.{bytecodeOf, bytecodeWritten, textLeft}
 use Rattle.program.specs.declared.BinaryInstruction.{BinaryInstruction}
 use Rattle.program.proofs.FormLaws.{words-before}
 use Rattle.encoder.specs.Canonical.{namesOf, holderOf}
-use Rattle.encoder.specs.Assemble.{Room, Accepted, assembled}
+use Rattle.encoder.specs.Assemble.{Room, Accepted, assembled, totalsOf, assembledTotals, wordsLeft}
 use Rattle.decoder.specs.AsRead.{asRead}
 use Rattle.decoder.specs.Open.{opened, run}
+use Rattle.decoder.specs.Steps.{runAt, nthCall}
 use Rattle.decoder.proofs.RunLaws.{opens, runs}
+use Rattle.decoder.proofs.OffsetLaws.{run-by-offsets as offsets-run}
 use Rattle.promises.specs.Terms.{SameProgram, allClean, operandAt, contentAt}
+use Rattle.promises.specs.TieLaws.{left-front, bytecode-fits, nth-answer}
 use Rattle.promises.specs.SameLaws.{words-same, bytecode-same}
 use Rattle.promises.specs.AcceptedLaws.{accepted-words, accepted-readable, accepted-short, accepted-form}
 use Rattle.promises.specs.NamePromise.{names-counted}
 
+-- What a caller holds after an accepted call.
+module _ (s prophets : List ℕ) (room : Room) (a : Accepted) (h : assembled s prophets room ≡ ok a) where
+  -- encoder_assemble::assemble_parts and encoder_entries::assemble answer the counts of this program,
+  pub counts-answered : assembledTotals s prophets room ≡ ok (totalsOf a)
+  unfolding assembledTotals _>>=_
+  counts-answered = rw h
+
+  -- and leave its words from the start of the lent slice on.
+  pub words-left : (lent : List ℕ) → take (length (a .words)) (wordsLeft (assembled s prophets room) lent) ≡ a .words
+  words-left lent = left-front (assembled s prophets room) (λ (x : Accepted). x .words) lent a h
+
+  -- program_bytecode::write_bytecode, given these words and 524,288 bytes or as many as it takes, leaves their bytecode.
+  pub bytecode-left : (text : List ℕ) → length (bytecodeOf (a .words)) ≤ length text
+      → take (length (bytecodeOf (a .words))) (textLeft (bytecodeWritten (a .words) (length text)) text) ≡ bytecodeOf (a .words)
+  bytecode-left text k = bytecode-fits (a .words) text k
+
 -- Two accepted sources, each with prophets and room of its own.
 module _ (s t prophets others : List ℕ) (room space : Room) (a b : Accepted) (h : assembled s prophets room ≡ ok a) (k : assembled t others space ≡ ok b) where
   -- The same words exactly when the same canonical programs.
+  -- Of encoder_assemble::assemble_parts and encoder_entries::assemble, and the words that they leave.
   -- A reviewer may conclude from equal words that the two sources mean one program, and from different words that they do not.
   pub same-words : (a .words ≡ b .words) ↔ SameProgram (a .program) (b .program)
   same-words = words-same s t prophets others room space a b h k
 
   -- The same for their bytecode.
+  -- Of the same functions, and the text that program_bytecode::write_bytecode leaves, given their words.
   -- Comparing the published texts is as good as comparing the words.
   pub same-bytecode : (bytecodeOf (a .words) ≡ bytecodeOf (b .words)) ↔ SameProgram (a .program) (b .program)
   same-bytecode = bytecode-same s t prophets others room space a b h k
 
+-- Any text, from its first byte: the run by offsets gives what the run by lines gives.
+-- Of decoder_next::next_at on the one side, decoder_next::next_line and decoder_bytecode::next on the other.
+-- A whole run may be made by offsets, which takes time linear in the text.
+pub run-by-offsets : (k : ℕ) (text : List ℕ) → runAt k text 0 ≡ run k text 0
+run-by-offsets k text = offsets-run k text
+
 -- One accepted source.
 module _ (s prophets : List ℕ) (room : Room) (a : Accepted) (h : assembled s prophets room ≡ ok a) where
   -- Its bytecode opens: none of 14 to 19 comes.
+  -- Of decoder_open::open_text and decoder_bytecode::open, given that text.
+  -- A reader of published words is never turned away.
   pub bytecode-opens : opened (bytecodeOf (a .words)) ≡ ok (map asRead (a .program))
   bytecode-opens =
       ap (λ (ws : List ℕ). opened (bytecodeOf ws)) (accepted-words s prophets room a h)
@@ -53,18 +83,31 @@ module _ (s prophets : List ℕ) (room : Room) (a : Accepted) (h : assembled s p
 
   -- Of k calls of next from the opened bytecode, each on the reader that the last returned, the first answers are the instructions of the
   -- canonical program in order, with mov's empty source place read as psp, and every call left over is refused with 20.
+  -- Of decoder_bytecode::next and decoder_next::next_line, called k times.
   -- What a reviewer reads back from published words is the program, whole and in order, and nothing else.
   pub run-reads : (k : ℕ) → run k (bytecodeOf (a .words)) 0 ≡ map ok (take k (map asRead (a .program))) ++ replicate (k - length (a .program)) (refused 20 0)
   run-reads k =
       ap (λ (ws : List ℕ). run k (bytecodeOf ws) 0) (accepted-words s prophets room a h)
       ∙ runs (a .program) (accepted-readable s prophets room a h) (accepted-short s prophets room a h) k
 
+  -- The k-th of these calls, from 0, answers the k-th instruction, and 20 where there is none.
+  -- Of decoder_next::nth, which makes the calls.
+  -- Asking for one instruction by its number is as good as reading up to it.
+  pub nth-reads : (k : ℕ) → nthCall (bytecodeOf (a .words)) k ≡ getD (map ok (map asRead (a .program))) k (refused 20 0)
+  nth-reads k =
+      ap (λ (answers : List (Answer BinaryInstruction)). getD answers k (refused 20 0)) (run-reads (suc k))
+      ∙ ap (λ (n : ℕ). getD (map ok (take (suc k) (map asRead (a .program))) ++ replicate (suc k - n) (refused 20 0)) k (refused 20 0)) (sym (length-map (a .program) asRead))
+      ∙ nth-answer (refused 20 0) k (map asRead (a .program))
+
   -- The words before an instruction are the words of the instructions ahead of it.
+  -- Of the words that the same functions leave.
+  -- So an address that counts the words before an instruction is the place of its first word.
   pub words-ahead : (n : ℕ) → length (programWords (take n (a .program))) ≡ wordsBefore (a .program) n
   words-ahead n = words-before (a .program) (accepted-form s prophets room a h) n
 
   -- Where no bracketed operand stands outside mload and mstore, each name in a place of the k-th row is, in that place of the k-th instruction,
   -- the count of words before the instruction that is marked by the row that holds the name; each label likewise.
+  -- Of encoder_assemble::assemble_parts and encoder_entries::assemble: their words are this program's.
   -- A jump or a call in such a source goes where its name stands.
   pub names-are-word-counts : (rows : List AsmRow) → sortedOf s ≡ ok rows → allClean (instructions rows) ≡ true
       → (k : ℕ) (i : OlaAsmInstruction) (b : BinaryInstruction) → getElem? (instructions rows) k ≡ some i → getElem? (a .program) k ≡ some b

@@ -1,4 +1,4 @@
--- The label table as parallel columns, and the row that holds a name in it.
+-- The label table as it is left, as entries and as parallel columns, and the row that holds a name in it.
 use Prim.Native.Nat.{ℕ, suc}
 use mathlib.Core.List.{List, [], _∷_, map}
 use mathlib.Core.Bool.{Bool, _&&_, cond}
@@ -10,13 +10,17 @@ use Rattle.asm.specs.Parts.{nameAt}
 use Rattle.asm.specs.declared.AsmRow.{AsmRow}
 use Rattle.relocate.specs.Labels.{prophetKind, tableOf}
 use Rattle.relocate.specs.Prophets.{listedLabels}
-use Rattle.relocate.specs.Relocate.{relocateNumber, relocateDetail}
+use Rattle.relocate.specs.Relocate.{relocateNumber, relocateDetail, tabled}
 use Rattle.relocate.specs.declared.WordAddress.{WordAddress}
 use Rattle.relocate.specs.declared.LabelEntry.{LabelEntry}
 use Rattle.relocate.specs.declared.AddressFound.{AddressFound}
 use Rattle.relocate.specs.declared.AddressFound.the-variants.{At, Nothing}
 use Rattle.relocate.specs.declared.ProphetsListed.{ProphetsListed}
 use Rattle.relocate.specs.declared.ProphetsListed.the-variants.{Is, Refused}
+
+-- "Refusals up to 7 in this order leave the table untouched, those after 7 leave it filled"; "entries past these are untouched"
+abbrev pub tableLeft : List ℕ → List LabelEntry → List LabelEntry
+tableLeft s table = onOk (tabled s (length table)) (λ rows. over (tableOf rows) table) table
 
 -- what a column holds afterwards: "one entry for each label row in sorted order", "entries past these are untouched"; a refusal leaves it as it was
 abbrev pub columnLeft : {A : Type 0} → Answer (List AsmRow) → (LabelEntry → A) → List A → List A

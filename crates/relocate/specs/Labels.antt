@@ -16,6 +16,10 @@ use Rattle.asm.specs.declared.AsmRow.the-variants.{Instruction, LabelCall, Labe
 use Rattle.relocate.specs.declared.WordAddress.{WordAddress}
 use Rattle.relocate.specs.declared.LabelEntry.{LabelEntry}
 
+-- an address as `WordAddress` holds it
+abbrev pub wordAddress : ℕ → WordAddress
+wordAddress n = record { 0 = n }
+
 -- "kind (0 call, 1 `.LBL`, 2 prophet)"
 abbrev pub callKind : ℕ
 callKind = 0

@@ -1,6 +1,7 @@
 // Scopes, addresses, the label table and prophets: assembler/src/relocate.rs.
 use asm::RowCount;
 ghost use mathlib.Core.Path.{_≡_};
+ghost use Rattle.relocate.specs.Labels.{wordAddress};
 
 // A count of words, the source's counter: an address. It is never added to a row count.
 #[repr(C)]
@@ -69,7 +70,7 @@ pub enum ProphetsListed {
 
 impl WordAddress {
     pub fn new(words: u64) -> Self
-        ensures { λ r. ⌜ r ≡ record { 0 = words } ⌝ }
+        ensures { λ r. ⌜ r ≡ wordAddress words ⌝ }
     {
         Self(words)
     }

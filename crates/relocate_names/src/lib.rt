@@ -1,19 +1,17 @@
-// Names in the label table: the row that holds one, the name of an entry, and how many prophets are kept. The table's five columns are lent
-// one by one; it has as many entries as the shortest of them.
+// Names in the label table: the row that holds one, and the name of an entry. The table's five columns are lent one by one; it has as many
+// entries as the shortest of them.
 use relocate::AddressFound;
 use relocate::LabelEntry;
 use relocate::WordAddress;
 ghost use mathlib.Core.Path.{_≡_};
 ghost use Prim.Native.Nat.{min};
-ghost use lib.ListN.{drop};
 ghost use Rattle.text.specs.Bytes.{same};
 ghost use Rattle.asm.specs.Parts.{nameAt};
-ghost use Rattle.relocate.specs.Prophets.{isIn, keptCount};
 ghost use Rattle.relocate.specs.Columns.{entriesOf, heldAddress};
 ghost use Rattle.relocate_names.specs.Shortest.{shortestOf};
 
 // The part of a source that starts at a place and has a length, an empty part where it reaches past the source's end.
-fn name_at<'a>(source: &'a [u8], start: usize, length: usize) -> &'a [u8]
+pub fn name_at<'a>(source: &'a [u8], start: usize, length: usize) -> &'a [u8]
     ensures { λ r. ⌜ now r ≡ nameAt (now (source .entry)) start length ⌝ }
 {
     if source.len() < start {
@@ -85,34 +83,4 @@ pub fn held_address(
         }
     }
     AddressFound::Nothing
-}
-
-// Whether a host stands in the list from a place on.
-fn occurs_after(hosts: &[u64], host: u64, from: usize) -> bool
-    ensures { λ r. ⌜ r ≡ isIn host (drop from (now (hosts .entry))) ⌝ }
-{
-    let mut i = from;
-    while i < hosts.len() {
-        if host == hosts[i] {
-            return true;
-        }
-        i += 1;
-    }
-    false
-}
-
-// How many prophets are kept, where of two on one host the later in the list is.
-pub fn kept_count(hosts: &[u64]) -> usize
-    ensures { λ r. ⌜ r ≡ keptCount (now (hosts .entry)) ⌝ }
-{
-    let mut count: usize = 0;
-    let mut i: usize = 0;
-    while i < hosts.len() {
-        let host = hosts[i];
-        i += 1;
-        if !occurs_after(hosts, host, i) {
-            count += 1;
-        }
-    }
-    count
 }

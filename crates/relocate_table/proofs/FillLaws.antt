@@ -40,16 +40,17 @@ allEntries s l = entriesFrom s l (record { seen = 0; address = 0; host = 0 }) 0
 -- ---- what was measured
 
 -- what a measured source says of its table
-record Laid (s : List ℕ) (room : ℕ) (l : Layout) : Type 0 where
-  rows : List AsmRow
-  ordered : l .start ≤ l .end
-  ended : l .end ≤ length s
-  table : tabled s room ≡ ok rows
-  entries : allEntries s l ≡ tableOf rows
-  enough : length (allEntries s l) ≤ room
+pub record Laid (s : List ℕ) (room : ℕ) (l : Layout) : Type 0 where
+  pub rows : List AsmRow
+  pub ordered : l .start ≤ l .end
+  pub ended : l .end ≤ length s
+  pub table : tabled s room ≡ ok rows
+  pub entries : allEntries s l ≡ tableOf rows
+  pub many : l .labels ≡ length (allEntries s l)
+  pub enough : length (allEntries s l) ≤ room
 
 -- every measured source does
-laid : (s : List ℕ) (room : ℕ) (l : Layout) → measured s room ≡ ok l → Laid s room l
+pub laid : (s : List ℕ) (room : ℕ) (l : Layout) → measured s room ≡ ok l → Laid s room l
 unfolding _>>=_
 laid s room l h =
     let a = measured-order s room l h in
@@ -64,6 +65,7 @@ laid s room l h =
       ended = measured-within s room l h;
       table = tabled-measured s room ∙ ap (λ (x : Answer Layout). x >>= λ l. ok (layoutRows s l)) h;
       entries = e;
+      many = omega arith;
       enough = omega arith;
     }
 

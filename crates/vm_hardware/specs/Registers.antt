@@ -1,5 +1,5 @@
 -- "Operations and registers": the registers, their bits in the three places, and their spellings.
-use Prim.Native.Nat.{ℕ, _+_, _-_}
+use Prim.Native.Nat.{ℕ, _+_, _-_, _^_}
 use mathlib.Core.List.{List, [], _∷_}
 use mathlib.Core.Bool.{Bool, _&&_, cond}
 use lib.Dec.{eqb}
@@ -51,6 +51,10 @@ placeBit Dst = 32
 
 abbrev pub registerBit : Place → OlaRegister → ℕ
 registerBit place r = placeBit place + registerIndex r
+
+-- the word that has this bit alone
+abbrev pub registerMask : Place → OlaRegister → ℕ
+registerMask place r = 2 ^ registerBit place r
 
 -- the first register in that order that passes a test
 unfoldable pub firstRegister : (OlaRegister → Bool) → List OlaRegister → RegisterFound

@@ -1,7 +1,6 @@
 // Registers: core/src/vm/hardware.rs, registers only.
 ghost use mathlib.Core.Path.{_≡_};
-ghost use Prim.Native.Nat.{_^_};
-ghost use Rattle.vm_hardware.specs.Registers.{placeIndex, registerIndex, registerBit, registerIn};
+ghost use Rattle.vm_hardware.specs.Registers.{placeIndex, registerIndex, registerBit, registerMask, registerIn};
 
 // The ten registers, in the order of the Rust.
 pub enum OlaRegister {
@@ -104,7 +103,7 @@ impl OlaRegister {
 
     // The word that has this bit alone: `binary_bit_mask_as_op0`, `_as_op1` and `_as_dst` of the Rust.
     pub fn binary_bit_mask(self, place: Place) -> u64
-        ensures { λ r. ⌜ r ≡ 2 ^ registerBit place self ⌝ }
+        ensures { λ r. ⌜ r ≡ registerMask place self ⌝ }
     {
         1 << (self.binary_bit_shift(place) as u64)
     }

@@ -48,6 +48,10 @@ indexOf EVENT = 26
 abbrev pub operationBit : OlaOpcode → ℕ
 operationBit o = 31 - indexOf o
 
+-- the word that has this bit alone
+abbrev pub operationMask : OlaOpcode → ℕ
+operationMask o = 2 ^ operationBit o
+
 -- bit k of a word
 abbrev pub bit : ℕ → ℕ → Bool
 bit k w = eqb (w / 2 ^ k % 2) 1

@@ -19,6 +19,10 @@ order = 0xFFFF_FFFF_0000_0001
 abbrev pub immediate : ℕ → ImmediateValue
 immediate n = record { number = n }
 
+-- a number below p
+abbrev pub isInField : ImmediateValue → Bool
+isInField v = ltb (v .number) order
+
 -- "a negative v becomes p + v"; "-0 is 0"
 abbrev pub inField : Bool → ℕ → ℕ
 inField negative m = cond (negative && ltb 0 m) (order - m) m

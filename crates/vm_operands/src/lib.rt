@@ -4,10 +4,9 @@ use text_write::Put;
 use vm_hardware::OlaRegister;
 use vm_hardware::OlaSpecialRegister;
 ghost use mathlib.Core.Path.{_≡_};
-ghost use lib.Dec.{ltb};
 ghost use Rattle.text_write.specs.Put.{putCount, putInto};
 ghost use Rattle.text_write.specs.Digits.{fewestText};
-ghost use Rattle.vm_operands.specs.Numbers.{order, signed, numberOf};
+ghost use Rattle.vm_operands.specs.Numbers.{immediate, isInField, signed, numberOf};
 
 // A number of the field. Its number may be ORDER or more where a caller makes one, which encoding refuses.
 pub struct ImmediateValue {
@@ -47,7 +46,7 @@ impl ImmediateValue {
     pub const ORDER: u64 = 0xFFFF_FFFF_0000_0001;
 
     pub fn new(number: u64) -> Self
-        ensures { λ r. ⌜ r ≡ record { number = number } ⌝ }
+        ensures { λ r. ⌜ r ≡ immediate number ⌝ }
     {
         Self { number }
     }
@@ -100,7 +99,7 @@ impl ImmediateValue {
 
     // Whether the number is below p.
     pub fn in_field(self) -> bool
-        ensures { λ r. ⌜ r ≡ ltb (self .number) order ⌝ }
+        ensures { λ r. ⌜ r ≡ isInField self ⌝ }
     {
         self.number < Self::ORDER
     }

@@ -3,11 +3,10 @@ use vm_opcodes::OlaOpcode;
 use vm_opcodes::OpcodeFound;
 use vm_opcodes::RowPlaces;
 ghost use mathlib.Core.Path.{_≡_};
-ghost use Prim.Native.Nat.{_^_};
-ghost use Rattle.vm_opcodes.specs.Operations.{operationBit, rowPlaces, operationIn};
+ghost use Rattle.vm_opcodes.specs.Operations.{operationBit, operationMask, rowPlaces, operationIn};
 
 // The operations by their index.
-const OPERATIONS: [OlaOpcode; 27] = [
+pub const OPERATIONS: [OlaOpcode; 27] = [
     OlaOpcode::ADD,
     OlaOpcode::MUL,
     OlaOpcode::EQ,
@@ -109,7 +108,7 @@ pub fn binary_bit_shift(opcode: OlaOpcode) -> u8
 
 // The word that has this bit alone.
 pub fn binary_bit_mask(opcode: OlaOpcode) -> u64
-    ensures { λ r. ⌜ r ≡ 2 ^ operationBit opcode ⌝ }
+    ensures { λ r. ⌜ r ≡ operationMask opcode ⌝ }
 {
     1 << (binary_bit_shift(opcode) as u64)
 }

@@ -4,8 +4,8 @@ use Rattle.asm_survey.proofs.with_instruction.Statement.{statement}
 use Rattle.asm_survey.proofs.with_instruction.Tie as tie
 use Rattle.asm_survey.proofs.with_instruction.Reads as reads
 use Rattle.asm_survey.proofs.with_instruction.Lts as lts
-use Rattle.asm_instructions.proofs.binary_length.Reads as binary-length-reads
-use Rattle.asm_instructions.proofs.word_count.Reads as word-count-reads
+use Rattle.asm_lengths.proofs.binary_length.Reads as binary-length-reads
+use Rattle.asm_lengths.proofs.word_count.Reads as word-count-reads
 
 binary-length-requires : tie.Need-binary-length-requires
 binary-length-requires c κs = search more-laws

@@ -4,11 +4,8 @@ use borrow.Author.Needs.{needs}
 use Rattle.encoder_canonical.proofs.look_up.Statement.{statement}
 use Rattle.encoder_canonical.proofs.look_up.Tie as tie
 
-new-requires : tie.Need-new-requires
-new-requires c κs = search needs
-
-label-name-requires : tie.Need-label-name-requires
-label-name-requires c κs = search needs
+name-at-requires : tie.Need-name-at-requires
+name-at-requires c κs = search needs
 
 held-address-requires : tie.Need-held-address-requires
 held-address-requires c κs = search needs
@@ -16,8 +13,8 @@ held-address-requires c κs = search needs
 enum-known-found : tie.Need-enum-known-found
 enum-known-found c = search needs
 
-new-requires-2 : tie.Need-new-requires-2
-new-requires-2 c κs = search needs
+new-requires : tie.Need-new-requires
+new-requires c κs = search needs
 
 enum-told : tie.Need-enum-told
 enum-told c = search needs
@@ -32,11 +29,10 @@ pub look-up-spec : {M : Type 1} → statement M
 look-up-spec =
     tie.close
     (tie.spec
-    new-requires
-    label-name-requires
+    name-at-requires
     held-address-requires
     enum-known-found
-    new-requires-2
+    new-requires
     enum-told
     returns
     returns-2)

@@ -4,7 +4,7 @@ use Rattle.relocate_table.proofs.row_after.Statement.{statement}
 use Rattle.relocate_table.proofs.row_after.Tie as tie
 use Rattle.relocate_table.proofs.row_after.Reads as reads
 use Rattle.relocate_table.proofs.row_after.Lts as lts
-use Rattle.asm_instructions.proofs.binary_length.Reads as binary-length-reads
+use Rattle.asm_lengths.proofs.binary_length.Reads as binary-length-reads
 
 enum-known-row : tie.Need-enum-known-row
 enum-known-row c = search needs

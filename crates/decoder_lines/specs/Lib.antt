@@ -1,0 +1,2 @@
+pub mod GroupAt
+pub mod ReadFrom

@@ -1,0 +1,208 @@
+-- Every instruction decoded, by what the instruction from an offset on is.
+use Prim.Native.Nat.{ℕ, suc, _+_, _-_, _<_, _≤_}
+use mathlib.Core.Path.{_≡_, refl, sym, ap, subst, _∙_}
+use mathlib.Core.List.{List, [], _∷_}
+use mathlib.Core.Bool.{Bool, true, false, cond}
+use mathlib.Core.Option.{Option, none, some}
+use native.Mathlib.Omega.{arith}
+use borrow.Author.Needs.{needs}
+use lib.Dec.{eqb}
+use lib.ListN.{length, take, drop}
+use Rattle.text.specs.Lines.{lines}
+use Rattle.text.specs.Answer.{Answer, ok, refused, _>>=_}
+use Rattle.vm_opcodes.specs.Operations.{bit, operationIn}
+use Rattle.vm_opcodes.specs.declared.OlaOpcode.{OlaOpcode}
+use Rattle.vm_opcodes.specs.declared.OpcodeFound.{OpcodeFound}
+use Rattle.vm_opcodes.specs.declared.OpcodeFound.the-variants.{Is as IsOpcode, Nothing as NoOpcode}
+use Rattle.vm_hardware.specs.Registers.{registerIn}
+use Rattle.vm_hardware.specs.declared.Place.the-variants.{Op0, Op1, Dst}
+use Rattle.vm_hardware.specs.declared.RegisterFound.{RegisterFound}
+use Rattle.vm_hardware.specs.declared.RegisterFound.the-variants.{Is as IsRegister, Nothing as NoRegister}
+use Rattle.vm_operands.specs.declared.ImmediateValue.{ImmediateValue}
+use Rattle.vm_operands.specs.declared.ImmediateFound.{ImmediateFound}
+use Rattle.vm_operands.specs.declared.ImmediateFound.the-variants.{Is as IsNumber, Nothing as NoNumber}
+use Rattle.vm_operands.specs.declared.OlaOperand.the-variants.{ImmediateOperand}
+use Rattle.program.specs.Instructions.{made, isMemory}
+use Rattle.program.specs.Groups.{Group}
+use Rattle.program.specs.declared.BinaryInstruction.{BinaryInstruction}
+use Rattle.decoder.specs.Lines.{secondOfLine, lineGroups, isComplete, completeOf}
+use Rattle.decoder.specs.Decode.{contentIn, memoryBuilt, memoryIn, builtWith, twoDue, onNumber, onOperation, decoded, onFirst, groupDecoded}
+use Rattle.decoder.specs.Open.{openNumber, openDetail, allDecoded}
+use Rattle.decoder.specs.Steps.{acceptedOf, ReadAt}
+use Rattle.decoder.specs.declared.OpenRefusal.{OpenRefusal}
+use Rattle.decoder.specs.declared.OpenRefusal.the-variants.{TextTooLong, FirstWordUnreadable, NoOperation, LineTooMany, SecondLineUnreadable, RegisterMissing}
+use Rattle.decoder_lines.specs.GroupAt.{groupAt}
+use Rattle.decoder_lines.specs.ReadFrom.{readAs, readFrom, atNumbered}
+use Rattle.decoder_lines.specs.declared.GroupAt.{GroupAt}
+use Rattle.decoder_lines.specs.declared.GroupAt.the-variants.{Nothing, Unreadable, Incomplete, Single, Pair}
+use Rattle.decoder_lines.specs.declared.InstructionAt.{InstructionAt}
+use Rattle.decoder_lines.specs.declared.InstructionAt.the-variants.{NoneLeft, Refused, Is}
+use Rattle.decoder_lines.proofs.AtLaws.{at-past}
+use Rattle.decoder_lines.proofs.GroupLaws.{lineAt, groupsFrom, nothing-groups, unreadable-first, unreadable-groups, incomplete-first, incomplete-groups, single-first, single-alone, single-groups, single-more, pair-first, pair-two, pair-groups, pair-more}
+use Rattle.decoder_lines.proofs.ReadLaws.{reads-nothing, reads-unreadable, reads-incomplete, reads-single, reads-pair}
+
+-- ---- no refusal of decoding has the number 20
+
+abbrev Known : {A : Type 0} → Answer A → Type 0
+Known (ok a) = Unit {0}
+Known (refused n d) = eqb n 20 ≡ false
+
+module _ (k : ℕ) where
+  module _ (o : OlaOpcode) where
+    memory-known : (v : ImmediateValue) (t : Bool) (dst op0 op1 : RegisterFound) → Known (memoryBuilt k o v t dst op0 op1)
+    unfolding memoryBuilt
+    memory-known v t NoRegister op0 op1 = refl
+    memory-known v t (IsRegister d) NoRegister op1 = refl
+    memory-known v true (IsRegister d) (IsRegister a) op1 = tt
+    memory-known v false (IsRegister d) (IsRegister a) NoRegister = refl
+    memory-known v false (IsRegister d) (IsRegister a) (IsRegister b) = tt
+
+    module _ (w : ℕ) where
+      built-known : (v : ImmediateValue) → Known (builtWith k o w v)
+      unfolding builtWith
+      built-known v = go (isMemory o)
+        where
+          go : (t : Bool) → Known (cond t (memoryIn k o w v) (ok (made o (contentIn Op0 w) (ImmediateOperand v) (contentIn Dst w))))
+          go true = memory-known v (bit 62 w) (registerIn Dst w) (registerIn Op0 w) (registerIn Op1 w)
+          go false = tt
+
+      number-known : (n : ImmediateFound) → Known (onNumber k o w n)
+      unfolding onNumber
+      number-known (IsNumber v) = built-known v
+      number-known NoNumber = refl
+
+      due-known : (t : Bool) (n : ImmediateFound) → Known (cond t (onNumber k o w n) (refused 17 k))
+      due-known true n = number-known n
+      due-known false n = refl
+
+  decoded-known : (w : ℕ) (second : Option (List ℕ)) → Known (decoded k w second)
+  unfolding onOperation
+  decoded-known w second = go (operationIn w) second
+    where
+      go : (p : OpcodeFound) (second : Option (List ℕ)) → Known (onOperation k w p second)
+      go NoOpcode second = refl
+      go (IsOpcode o) none = tt
+      go (IsOpcode o) (some l) = due-known o w (twoDue o w) (secondOfLine l)
+
+-- ---- what is left, by the instruction that stands first
+
+module _ (k : ℕ) (g : Group (List ℕ)) (gs : List (Group (List ℕ))) where
+  -- a complete instruction stays
+  complete-first : isComplete g ≡ true → completeOf (g ∷ gs) ≡ g ∷ completeOf gs
+  unfolding completeOf
+  complete-first f = rw f
+
+  -- its refusal answers
+  first-refused : (n d : ℕ) → groupDecoded k g ≡ refused n d → acceptedOf (allDecoded k (g ∷ gs)) ≡ refused n d
+  unfolding allDecoded _>>=_
+  first-refused n d p = rw p
+
+  -- where it is read, those after it decide
+  first-read : (i : BinaryInstruction) → groupDecoded k g ≡ ok i → acceptedOf (allDecoded k (g ∷ gs)) ≡ acceptedOf (allDecoded (k + 1) gs)
+  unfolding allDecoded _>>=_
+  first-read i p =
+      let m : suc k ≡ k + 1 = omega arith in
+      rw p (go (allDecoded (suc k) gs) ∙ ap (λ (n : ℕ). acceptedOf (allDecoded n gs)) m)
+    where
+      go : (a : Answer (List BinaryInstruction)) → acceptedOf (a >>= λ is. ok (i ∷ is)) ≡ acceptedOf a
+      go (ok is) = refl
+      go (refused n d) = refl
+
+-- from an offset on, the first index given
+module _ (text : List ℕ) (k at : ℕ) where
+  abbrev left : Answer (Unit {0})
+  left = acceptedOf (allDecoded k (completeOf (groupsFrom text at)))
+
+  left-as : (gs : List (Group (List ℕ))) → groupsFrom text at ≡ gs → left ≡ acceptedOf (allDecoded k (completeOf gs))
+  left-as gs e = ap (λ (gs : List (Group (List ℕ))). acceptedOf (allDecoded k (completeOf gs))) e
+
+  -- what an answer says of what is left: an instruction, that no complete one is left, or the refusal
+  abbrev Says : Answer ReadAt → Type 0
+  Says (ok r) = (left ≡ acceptedOf (allDecoded (k + 1) (completeOf (groupsFrom text (r .offset))))) × (at < r .offset)
+  Says (refused n d) = left ≡ cond (eqb n 20) (ok tt) (refused n d)
+
+  -- a complete instruction
+  module _ (g : Group (List ℕ)) (gs : List (Group (List ℕ))) (e : groupsFrom text at ≡ g ∷ gs) (f : isComplete g ≡ true) where
+    left-first : left ≡ acceptedOf (allDecoded k (g ∷ completeOf gs))
+    left-first = left-as (g ∷ gs) e ∙ ap (λ (gs : List (Group (List ℕ))). acceptedOf (allDecoded k gs)) (complete-first k g gs f)
+
+    left-refused : (n d : ℕ) → groupDecoded k g ≡ refused n d → left ≡ refused n d
+    left-refused n d p = left-first ∙ first-refused k g (completeOf gs) n d p
+
+    complete-says : (next n : ℕ) → gs ≡ groupsFrom text next → at < next → (a : Answer BinaryInstruction) → groupDecoded k g ≡ a → Known a → Says (readAs a n next)
+    unfolding readAs _>>=_
+    complete-says next n h l (ok i) p q =
+        (left-first ∙ first-read k g (completeOf gs) i p ∙ ap (λ (gs : List (Group (List ℕ))). acceptedOf (allDecoded (k + 1) (completeOf gs))) h, l)
+    complete-says next n h l (refused m d) p q = left-refused m d p ∙ rw q
+
+  -- so does the instruction from the offset on
+  says : Says (readFrom k text at)
+  unfolding completeOf allDecoded onFirst _>>=_
+  says = go (groupAt text at) refl
+    where
+      go : (g : GroupAt) → groupAt text at ≡ g → Says (readFrom k text at)
+      go Nothing e = subst Says (reads-nothing k text at (groupAt text at) refl e) (left-as [] (nothing-groups text at e))
+      go Unreadable e =
+          let f = unreadable-first text at e in
+          subst Says (reads-unreadable k text at (groupAt text at) refl e)
+          (left-refused (record { first = lineAt text at; second = none }) _ (unreadable-groups text at e) (rw f) 15 k (rw f))
+      go Incomplete e =
+          let f = incomplete-first text at e in
+          subst Says (reads-incomplete k text at (groupAt text at) refl e)
+          (left-as _ (incomplete-groups text at e) ∙ rw (f .1, f .2))
+      go (Single w next) e =
+          let f = single-first text at w next e in
+          let h = single-alone text at w next e in
+          subst Says (reads-single k text at (groupAt text at) refl w next e (decoded k w none) refl (readAs (decoded k w none) 1 next) refl)
+          (complete-says (record { first = lineAt text at; second = none }) (groupsFrom text next) (single-groups text at w next e) (rw (f, h))
+          next 1 refl (single-more text at w next e) (decoded k w none) (rw f) (decoded-known k w none))
+      go (Pair w start n next) e =
+          let f = pair-first text at w start n next e in
+          let h = pair-two text at w start n next e in
+          let m = pair-more text at w start n next e in
+          let l : List ℕ = take n (drop start text) in
+          let j : start + n - start ≡ n = omega arith in
+          subst Says (reads-pair k text at (groupAt text at) refl w start n next e (decoded k w (some l)) (rw j) (readAs (decoded k w (some l)) 2 next) refl)
+          (complete-says (record { first = lineAt text at; second = some l }) (groupsFrom text next) (pair-groups text at w start n next e) (rw (f, h))
+          next 2 refl (omega arith) (decoded k w (some l)) (rw f) (decoded-known k w (some l)))
+
+-- ---- at each way out
+module _ (text : List ℕ) (k at : ℕ)
+    (left : acceptedOf (allDecoded 0 (completeOf (lineGroups (lines text)))) ≡ acceptedOf (allDecoded k (completeOf (lineGroups (lines (drop at text)))))) where
+  module _ (r : InstructionAt) (e : atNumbered r ≡ readFrom k text at) where
+    -- none is left
+    pub all-none : r ≡ NoneLeft → ok tt ≡ acceptedOf (allDecoded 0 (completeOf (lineGroups (lines text))))
+    all-none h = sym (left ∙ subst (Says text k at) (sym e ∙ ap atNumbered h) (says text k at))
+
+    -- the first refusal answers
+    pub all-refused : (f : OpenRefusal) → r ≡ Refused f → refused (openNumber f) (openDetail f) ≡ acceptedOf (allDecoded 0 (completeOf (lineGroups (lines text))))
+    all-refused f h = sym (left ∙ go f (subst (Says text k at) (sym e ∙ ap atNumbered h) (says text k at)))
+      where
+        go : (f : OpenRefusal) → Says text k at (refused (openNumber f) (openDetail f)) → acceptedOf (allDecoded k (completeOf (lineGroups (lines (drop at text))))) ≡ refused (openNumber f) (openDetail f)
+        go TextTooLong s = s
+        go (FirstWordUnreadable line) s = s
+        go (NoOperation index) s = s
+        go (LineTooMany index) s = s
+        go (SecondLineUnreadable index) s = s
+        go (RegisterMissing index) s = s
+
+    -- an instruction
+    module _ (i : BinaryInstruction) (n next : ℕ) (h : r ≡ Is i n next) where
+      told : Says text k at (ok (record { instruction = i; lines = n; offset = next }))
+      told = subst (Says text k at) (sym e ∙ ap atNumbered h) (says text k at)
+
+      pub all-next : acceptedOf (allDecoded 0 (completeOf (lineGroups (lines text)))) ≡ acceptedOf (allDecoded (k + 1) (completeOf (lineGroups (lines (drop next text)))))
+      all-next = left ∙ told .0
+
+      pub count-next : k ≤ at → k + 1 ≤ next
+      count-next p = let m = told .1 in omega arith
+
+      pub less-next : at < length text → length text - next < length text - at
+      less-next p = let m = told .1 in omega arith
+
+  -- past the end none is left
+  pub all-end : length text ≤ at → ok tt ≡ acceptedOf (allDecoded 0 (completeOf (lineGroups (lines text))))
+  unfolding completeOf allDecoded
+  all-end h = sym (left ∙ left-as text k at [] (nothing-groups text at (sym (at-past text at h))))
+
+pub ruleset all-laws = (all-none, all-refused, all-next, count-next, less-next, all-end, needs)

@@ -1,0 +1,127 @@
+-- Refusals 8 to 13 stage by stage, and that the stages together are document 01's own order over sorted rows.
+use Prim.Native.Nat.{ℕ, _+_, _<_, _≤_}
+use mathlib.Core.Path.{_≡_, refl, sym, ap, subst, _∙_}
+use mathlib.Core.List.{List, [], _∷_, map}
+use mathlib.Core.Bool.{Bool, true, false, _||_, cond}
+use mathlib.Core.Option.{Option, none, some}
+use native.Mathlib.Omega.{arith}
+use borrow.Author.Needs.{needs}
+use borrow.Author.Tests.{le-ltb, lt-ltb, ltb-false}
+use lib.Dec.{ltb}
+use lib.ListN.{length}
+use Rattle.text.specs.Answer.{Answer, ok, refused, _>>=_, _>>_, refuseIf, refuseAt}
+use Rattle.text.proofs.AnswerLaws.{not-ok, ok-same}
+use Rattle.asm.specs.declared.RowCount.{RowCount}
+use Rattle.asm.specs.declared.AsmRow.{AsmRow}
+use Rattle.asm.specs.declared.PlaceFound.{PlaceFound}
+use Rattle.asm.specs.declared.PlaceFound.the-variants.{At, Nothing}
+use Rattle.relocate.specs.Labels.{labelRows}
+use Rattle.relocate.specs.Relocate.{hostsOf}
+use Rattle.relocate.specs.Layout.{sortedInstructions}
+use Rattle.relocate.specs.Columns.{heldHosts, hostCount, listedNumbered}
+use Rattle.relocate.specs.declared.LabelEntry.{LabelEntry}
+use Rattle.relocate.specs.declared.Layout.{Layout}
+use Rattle.relocate.specs.declared.ProphetsListed.{ProphetsListed}
+use Rattle.relocate.specs.declared.ProphetsListed.the-variants.{Is as IsListed, Refused as NotListed}
+use Rattle.relocate.specs.declared.RelocateRefusal.{RelocateRefusal}
+use Rattle.program.specs.Words.{programWords}
+use Rattle.program.specs.declared.BinaryInstruction.{BinaryInstruction}
+use Rattle.encoder.specs.Canonical.{canonicalProgram, firstMisplaced}
+use Rattle.encoder.specs.Assemble.{Room, Accepted, encodedRows}
+use Rattle.encoder.specs.declared.AssembleRefusal.{AssembleRefusal}
+use Rattle.encoder.specs.declared.AssembleRefusal.the-variants.{Relocate, NumberMisplaced, RoomTooShort}
+use Rattle.encoder_walks.specs.Walks.{resolutionNumbered, heldCount, heldMisplaced}
+use Rattle.encoder_walks.specs.declared.Resolution.{Resolution}
+use Rattle.encoder_walks.specs.declared.Resolution.the-variants.{Is as IsResolved, Refused as NotResolved}
+use Rattle.encoder_checks.specs.Checked.{placeOption, checkedNumbered, rowsChecked, checkedOf}
+use Rattle.encoder_checks.specs.declared.Checked.{Checked}
+use Rattle.encoder_checks.specs.declared.Checked.the-variants.{Is, Refused}
+
+-- ---- 10 to 13, one law for each way out
+
+module _ (s : List ℕ) (es : List LabelEntry) (l : Layout) (wordroom hostroom hosts : ℕ) (r : Resolution) (e : resolutionNumbered r ≡ heldCount s es (sortedInstructions s (l .start) (l .end))) where
+  pub rows-unresolved : (f : AssembleRefusal) → r ≡ NotResolved f → checkedNumbered (Refused f) ≡ rowsChecked s es l wordroom hostroom hosts
+  unfolding rowsChecked _>>=_
+  rows-unresolved f g = rw (sym e, g)
+
+  module _ (n : ℕ) (g : r ≡ IsResolved n) (p : PlaceFound) (h : p ≡ heldMisplaced s es 0 (sortedInstructions s (l .start) (l .end))) where
+    placed-rest : rowsChecked s es l wordroom hostroom hosts ≡ (refuseAt (placeOption p) 12 >> (refuseIf (ltb wordroom (l .words) || ltb hostroom hosts) 13 >> ok hosts))
+    unfolding rowsChecked _>>=_
+    placed-rest = rw (sym e, g, h)
+
+    pub rows-misplaced : (k : ℕ) (x : RowCount) → p ≡ At k → x ≡ record { 0 = k } → checkedNumbered (Refused (NumberMisplaced x)) ≡ rowsChecked s es l wordroom hostroom hosts
+    unfolding _>>_ refuseAt
+    rows-misplaced k x i j = ap (λ (y : RowCount). refused 12 (y .0)) j ∙ sym (placed-rest ∙ rw i)
+
+    module _ (i : p ≡ Nothing) where
+      roomed : rowsChecked s es l wordroom hostroom hosts ≡ (refuseIf (ltb wordroom (l .words) || ltb hostroom hosts) 13 >> ok hosts)
+      unfolding _>>_ refuseAt
+      roomed = placed-rest ∙ rw i
+
+      pub rows-words : wordroom < l .words → checkedNumbered (Refused RoomTooShort) ≡ rowsChecked s es l wordroom hostroom hosts
+      unfolding _>>_ refuseIf
+      rows-words j = sym (roomed ∙ rw (lt-ltb wordroom (l .words) j))
+
+      pub rows-hosts : l .words ≤ wordroom → hostroom < hosts → checkedNumbered (Refused RoomTooShort) ≡ rowsChecked s es l wordroom hostroom hosts
+      unfolding _>>_ refuseIf
+      rows-hosts j k = sym (roomed ∙ rw (le-ltb wordroom (l .words) j, lt-ltb hostroom hosts k))
+
+      pub rows-pass : l .words ≤ wordroom → hosts ≤ hostroom → checkedNumbered (Is hosts) ≡ rowsChecked s es l wordroom hostroom hosts
+      unfolding _>>_ refuseIf
+      rows-pass j k = sym (roomed ∙ rw (le-ltb wordroom (l .words) j, le-ltb hostroom hosts k))
+
+pub ruleset rows-laws = (rows-unresolved, rows-misplaced, rows-words, rows-hosts, rows-pass, needs)
+
+-- ---- 8 and 9 before them
+
+module _ (s list : List ℕ) (es : List LabelEntry) (l : Layout) (wordroom hostroom : ℕ) (x : ProphetsListed) (e : listedNumbered x ≡ hostCount (heldHosts s es list)) where
+  pub list-refused : (f : RelocateRefusal) → x ≡ NotListed f → checkedNumbered (Refused (Relocate f)) ≡ checkedOf s list es l wordroom hostroom
+  unfolding checkedOf _>>=_
+  list-refused f g = sym (ap (λ (y : Answer ℕ). y >>= rowsChecked s es l wordroom hostroom) (sym e ∙ ap listedNumbered g))
+
+  pub list-passed : (n : ℕ) (r : Checked) → x ≡ IsListed n → checkedNumbered r ≡ rowsChecked s es l wordroom hostroom n → checkedNumbered r ≡ checkedOf s list es l wordroom hostroom
+  unfolding checkedOf _>>=_
+  list-passed n r g h = h ∙ sym (ap (λ (y : Answer ℕ). y >>= rowsChecked s es l wordroom hostroom) (sym e ∙ ap listedNumbered g))
+
+pub ruleset list-laws = (list-refused, list-passed, needs)
+
+-- ---- the stages and the order of document 01
+
+-- how many hosts an accepted source has
+abbrev pub hostsIn : Answer Accepted → Answer ℕ
+hostsIn x = x >>= λ a. ok (length (a .hosts))
+
+module _ (s list : List ℕ) (rows : List AsmRow) (es : List LabelEntry) (l : Layout) (room : Room)
+    (hosts : heldHosts s es list ≡ hostsOf s rows list)
+    (count : heldCount s es (sortedInstructions s (l .start) (l .end)) ≡ (canonicalProgram s rows >>= λ bs. ok (length bs)))
+    (placed : (bs : List BinaryInstruction) → canonicalProgram s rows ≡ ok bs → placeOption (heldMisplaced s es 0 (sortedInstructions s (l .start) (l .end))) ≡ firstMisplaced 0 bs)
+    (words : (bs : List BinaryInstruction) → canonicalProgram s rows ≡ ok bs → firstMisplaced 0 bs ≡ none → length (programWords bs) ≡ l .words) where
+  pub stages-together : checkedOf s list es l (room .words) (room .hosts) ≡ hostsIn (encodedRows s rows list room)
+  unfolding checkedOf rowsChecked encodedRows _>>=_ _>>_ refuseAt refuseIf
+  stages-together =
+      ap (λ (x : Answer (List ℕ)). hostCount x >>= λ h. stage h (heldCount s es (sortedInstructions s (l .start) (l .end)))) hosts
+      ∙ ap (λ (c : Answer ℕ). hostCount (hostsOf s rows list) >>= λ h. stage h c) count
+      ∙ go (hostsOf s rows list) (canonicalProgram s rows) refl
+    where
+      m : Option ℕ
+      m = placeOption (heldMisplaced s es 0 (sortedInstructions s (l .start) (l .end)))
+
+      stage : ℕ → Answer ℕ → Answer ℕ
+      stage h c = c >>= λ n. (refuseAt m 12 >> (refuseIf (ltb (room .words) (l .words) || ltb (room .hosts) h) 13 >> ok h))
+
+      last : (hs : List ℕ) (bs : List BinaryInstruction) → canonicalProgram s rows ≡ ok bs → (o : Option ℕ) → firstMisplaced 0 bs ≡ o
+          → (refuseAt o 12 >> (refuseIf (ltb (room .words) (l .words) || ltb (room .hosts) (length hs)) 13 >> ok (length hs)))
+          ≡ hostsIn (refuseAt o 12 >> (refuseIf (ltb (room .words) (length (programWords bs)) || ltb (room .hosts) (length hs)) 13 >> ok (record { labels = length (labelRows 0 rows); program = bs; words = programWords bs; hosts = hs })))
+      last hs bs e (some k) f = refl
+      last hs bs e none f = rw (words bs e f) (end (ltb (room .words) (l .words) || ltb (room .hosts) (length hs)))
+        where
+          end : (t : Bool) → (refuseIf t 13 >> ok (length hs)) ≡ hostsIn (refuseIf t 13 >> ok (record { labels = length (labelRows 0 rows); program = bs; words = programWords bs; hosts = hs }))
+          end true = refl
+          end false = refl
+
+      go : (x : Answer (List ℕ)) (y : Answer (List BinaryInstruction)) → canonicalProgram s rows ≡ y
+          → ((x >>= λ hs. ok (length hs)) >>= λ h. stage h (y >>= λ bs. ok (length bs)))
+          ≡ hostsIn (x >>= λ hs. y >>= λ bs. (refuseAt (firstMisplaced 0 bs) 12 >> (refuseIf (ltb (room .words) (length (programWords bs)) || ltb (room .hosts) (length hs)) 13 >> ok (record { labels = length (labelRows 0 rows); program = bs; words = programWords bs; hosts = hs }))))
+      go (refused n d) y e = refl
+      go (ok hs) (refused n d) e = refl
+      go (ok hs) (ok bs) e = rw (placed bs e) (last hs bs e (firstMisplaced 0 bs) refl)

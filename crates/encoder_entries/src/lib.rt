@@ -1,0 +1,26 @@
+// Assembling over a lent slice of label entries: a thin walk by hand over covered functions.
+use encoder::Assembly;
+use relocate::LabelEntry;
+ghost use mathlib.Core.Path.{_≡_};
+ghost use lib.ListN.{length};
+ghost use Rattle.relocate.specs.Columns.{tableLeft};
+ghost use Rattle.encoder.specs.Assemble.{numbered, assembled, assembledTotals, wordsLeft, hostsLeft};
+
+// Assembles a source with a prophet list: the label table, the words and the hosts.
+// Promises: counts-answered, words-left, same-words, same-bytecode, words-ahead, names-are-word-counts.
+pub fn assemble(
+    source: &[u8],
+    prophets: &[u8],
+    table: &mut [LabelEntry],
+    words: &mut [u64],
+    hosts: &mut [u64],
+) -> Assembly
+    ensures { λ r. ⌜ numbered r ≡ assembledTotals (now (source .entry)) (now (prophets .entry)) (record { entries = length (now (table .entry)); words = length (now (words .entry)); hosts = length (now (hosts .entry)) }) ⌝ }
+    ensures { λ _. ⌜ now (table .exit) ≡ tableLeft (now (source .entry)) (now (table .entry)) ⌝ }
+    ensures { λ _. ⌜ now (words .exit) ≡ wordsLeft (assembled (now (source .entry)) (now (prophets .entry)) (record { entries = length (now (table .entry)); words = length (now (words .entry)); hosts = length (now (hosts .entry)) })) (now (words .entry)) ⌝ }
+    ensures { λ _. ⌜ now (hosts .exit) ≡ hostsLeft (assembled (now (source .entry)) (now (prophets .entry)) (record { entries = length (now (table .entry)); words = length (now (words .entry)); hosts = length (now (hosts .entry)) })) (now (hosts .entry)) ⌝ }
+{
+    let assembly = encoder_room::assemble_room(source, prophets, table.len(), words, hosts);
+    relocate_table::label_entries(source, table);
+    assembly
+}

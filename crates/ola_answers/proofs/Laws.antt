@@ -1,0 +1,116 @@
+-- Laws of the answers as numbers, one for each way out of a function.
+use Prim.Native.Nat.{ℕ}
+use mathlib.Core.Path.{_≡_}
+use borrow.Author.Needs.{needs}
+use Rattle.text.specs.Answer.{ok, refused}
+use Rattle.encoder.specs.Assemble.{numbered, assembleNumber, assembleDetail}
+use Rattle.encoder.specs.declared.AssembleRefusal.{AssembleRefusal}
+use Rattle.encoder.specs.declared.Totals.{Totals}
+use Rattle.encoder.specs.declared.Assembly.{Assembly}
+use Rattle.encoder.specs.declared.Assembly.the-variants.{Refused as NotAssembled, Assembled}
+use Rattle.program.specs.Refusals.{rowNumber, encodeNumber, encodeDetail}
+use Rattle.program.specs.declared.BinaryInstruction.{BinaryInstruction}
+use Rattle.program.specs.declared.InstructionWords.{InstructionWords}
+use Rattle.program.specs.declared.SecondWord.the-variants.{Number, Nothing}
+use Rattle.program.specs.declared.WriteRefusal.{WriteRefusal}
+use Rattle.program.specs.declared.WriteRefusal.the-variants.{TextTooShort}
+use Rattle.program.specs.declared.RowRefusal.{RowRefusal}
+use Rattle.program.specs.declared.RowRefusal.the-variants.{NumberTooLarge, PlaceEmpty, TextTooShort as RowTextTooShort}
+use Rattle.program.specs.declared.EncodeRefusal.{EncodeRefusal}
+use Rattle.program_bytecode.specs.Written.{writtenNumbered}
+use Rattle.program_bytecode.specs.declared.Written.{Written}
+use Rattle.program_bytecode.specs.declared.Written.the-variants.{Is as IsWritten, Refused as NotWritten}
+use Rattle.program_listing.specs.Row.{rowNumbered}
+use Rattle.program_listing.specs.declared.RowWritten.{RowWritten}
+use Rattle.program_listing.specs.declared.RowWritten.the-variants.{Is as IsRow, Refused as NoRow}
+use Rattle.program_encode.specs.Encoding.{encodingNumbered}
+use Rattle.program_encode.specs.declared.Encoding.{Encoding}
+use Rattle.program_encode.specs.declared.Encoding.the-variants.{Is as IsEncoded, Refused as NotEncoded}
+use Rattle.decoder.specs.Open.{openNumber, openDetail}
+use Rattle.decoder.specs.Steps.{openNumbered, foundNumbered}
+use Rattle.decoder.specs.declared.OpenRefusal.{OpenRefusal}
+use Rattle.decoder.specs.declared.NextRefusal.{NextRefusal}
+use Rattle.decoder.specs.declared.NextRefusal.the-variants.{Open, NoneLeft}
+use Rattle.decoder.specs.declared.Opening.{Opening}
+use Rattle.decoder.specs.declared.Opening.the-variants.{Accepted, Refused as NotOpened}
+use Rattle.decoder.specs.declared.Found.{Found}
+use Rattle.decoder.specs.declared.Found.the-variants.{Is as IsFound, Refused as NotFound}
+use Rattle.ola_places.specs.Places.{instructionOut}
+use Rattle.ola_places.specs.declared.OlaInstruction.{OlaInstruction}
+use Rattle.ola_answers.specs.Answers.{assemblyOf, writtenOf, openedOf, stepRefused, stepOf, encodingOf}
+use Rattle.ola_answers.specs.declared.OlaWritten.{OlaWritten}
+use Rattle.ola_answers.specs.declared.OlaStep.{OlaStep}
+
+-- ---- assembling
+
+pub assembled-out : (a : Assembly) (t : Totals) → a ≡ Assembled t
+    → record { refusal = 0; detail = 0; labels = t .labels; words = t .words; hosts = t .hosts; kept = t .kept } ≡ assemblyOf (numbered a)
+assembled-out a t e = rw (e)
+
+pub unassembled-out : (a : Assembly) (f : AssembleRefusal) (n d : ℕ) → a ≡ NotAssembled f → n ≡ assembleNumber f → d ≡ assembleDetail f
+    → record { refusal = n; detail = d; labels = 0; words = 0; hosts = 0; kept = 0 } ≡ assemblyOf (numbered a)
+unassembled-out a f n d e g h = rw (e, g, h)
+
+pub ruleset assembly-laws = (assembled-out, unassembled-out, needs)
+
+-- ---- writing a text or a row
+
+module _ (r : OlaWritten) where
+  pub written-is : (a : Written) (n : ℕ) → a ≡ IsWritten n → r ≡ writtenOf (ok n) → r ≡ writtenOf (writtenNumbered a)
+  written-is a n e w = rw (w, e)
+
+  pub written-not : (a : Written) (f : WriteRefusal) → a ≡ NotWritten f → r ≡ writtenOf (refused 23 0) → r ≡ writtenOf (writtenNumbered a)
+  written-not a TextTooShort e w = rw (w, e)
+
+  pub row-is : (a : RowWritten) (n : ℕ) → a ≡ IsRow n → r ≡ writtenOf (ok n) → r ≡ writtenOf (rowNumbered a)
+  row-is a n e w = rw (w, e)
+
+  -- no refusal of a row has a detail
+  pub row-not : (a : RowWritten) (f : RowRefusal) (n : ℕ) → a ≡ NoRow f → n ≡ rowNumber f → r ≡ writtenOf (refused n 0) → r ≡ writtenOf (rowNumbered a)
+  row-not a NumberTooLarge n e g w = rw (w, e, g)
+  row-not a PlaceEmpty n e g w = rw (w, e, g)
+  row-not a RowTextTooShort n e g w = rw (w, e, g)
+
+pub ruleset written-laws = (written-is, written-not, row-is, row-not, needs)
+
+-- ---- opening
+
+pub opened-is : (a : Opening) → a ≡ Accepted → record { refusal = 0; detail = 0 } ≡ openedOf (openNumbered a)
+opened-is a e = rw (e)
+
+pub opened-not : (a : Opening) (f : OpenRefusal) (n d : ℕ) → a ≡ NotOpened f → n ≡ openNumber f → d ≡ openDetail f → record { refusal = n; detail = d } ≡ openedOf (openNumbered a)
+opened-not a f n d e g h = rw (e, g, h)
+
+pub ruleset opened-laws = (opened-is, opened-not, needs)
+
+-- ---- a call of next
+
+module _ (a : Found) (line : ℕ) where
+  pub found-out : (i : BinaryInstruction) (o : OlaInstruction) → a ≡ IsFound i → o ≡ instructionOut i
+      → record { refusal = 0; detail = 0; line = line; instruction = o } ≡ stepOf (foundNumbered a) line
+  found-out i o e g = rw (g, e)
+
+  module _ (f : NextRefusal) (e : a ≡ NotFound f) (s : OlaStep) where
+    pub unread-out : (r : OpenRefusal) (n d : ℕ) → f ≡ Open r → n ≡ openNumber r → d ≡ openDetail r → s ≡ stepRefused n d line → s ≡ stepOf (foundNumbered a) line
+    unread-out r n d g h k w = rw (w, e, g, h, k)
+
+    pub none-left-out : f ≡ NoneLeft → s ≡ stepRefused 20 0 line → s ≡ stepOf (foundNumbered a) line
+    none-left-out g w = rw (w, e, g)
+
+pub ruleset step-laws = (found-out, unread-out, none-left-out, needs)
+
+-- ---- encoding
+
+module _ (a : Encoding) where
+  module _ (w : InstructionWords) (e : a ≡ IsEncoded w) where
+    pub two-words : (v : ℕ) → w .second ≡ Number v → record { refusal = 0; detail = 0; count = 2; first = w .first; second = v } ≡ encodingOf (encodingNumbered a)
+    two-words v g = rw (e, g)
+
+    pub one-word : w .second ≡ Nothing → record { refusal = 0; detail = 0; count = 1; first = w .first; second = 0 } ≡ encodingOf (encodingNumbered a)
+    one-word g = rw (e, g)
+
+  pub unencoded : (f : EncodeRefusal) (n d : ℕ) → a ≡ NotEncoded f → n ≡ encodeNumber f → d ≡ encodeDetail f
+      → record { refusal = n; detail = d; count = 0; first = 0; second = 0 } ≡ encodingOf (encodingNumbered a)
+  unencoded f n d e g h = rw (e, g, h)
+
+pub ruleset encoding-laws = (two-words, one-word, unencoded, needs)

@@ -1,0 +1,293 @@
+// What the library answers as C structs: refusal 0 means accepted, and on refusal every other number but the detail is 0, or for a step stays where
+// it was. Nothing but conversions.
+use decoder::Found;
+use decoder::NextRefusal;
+use decoder::OpenRefusal;
+use decoder::Opening;
+use encoder::Assembly;
+use ola_places::OlaInstruction;
+use ola_places::OlaPlace;
+use program::EncodeRefusal;
+use program::RowRefusal;
+use program::SecondWord;
+use program_bytecode::Written;
+use program_encode::Encoding;
+use program_listing::RowWritten;
+ghost use mathlib.Core.Path.{_≡_};
+ghost use Rattle.text.specs.Answer.{ok, refused};
+ghost use Rattle.decoder.specs.Open.{openNumber, openDetail};
+ghost use Rattle.decoder.specs.Steps.{openNumbered, foundNumbered};
+ghost use Rattle.encoder.specs.Assemble.{numbered};
+ghost use Rattle.program.specs.Refusals.{rowNumber, encodeNumber, encodeDetail};
+ghost use Rattle.program_bytecode.specs.Written.{writtenNumbered};
+ghost use Rattle.program_encode.specs.Encoding.{encodingNumbered};
+ghost use Rattle.program_listing.specs.Row.{rowNumbered};
+ghost use Rattle.ola_answers.specs.Answers.{assemblyOf, writtenOf, openedOf, stepRefused, stepOf, encodingOf};
+
+#[repr(C)]
+pub struct OlaAssembly {
+    pub refusal: u64,
+    pub detail: u64,
+    pub labels: u64,
+    pub words: u64,
+    pub hosts: u64,
+    pub kept: u64,
+}
+
+#[repr(C)]
+pub struct OlaWritten {
+    pub refusal: u64,
+    pub detail: u64,
+    pub written: u64,
+}
+
+#[repr(C)]
+pub struct OlaOpened {
+    pub refusal: u64,
+    pub detail: u64,
+}
+
+// The line is the line reached; of a step by offsets, the offset.
+#[repr(C)]
+pub struct OlaStep {
+    pub refusal: u64,
+    pub detail: u64,
+    pub line: u64,
+    pub instruction: OlaInstruction,
+}
+
+#[repr(C)]
+pub struct OlaEncoding {
+    pub refusal: u64,
+    pub detail: u64,
+    pub count: u64,
+    pub first: u64,
+    pub second: u64,
+}
+
+#[repr(C)]
+pub struct OlaName {
+    pub start: usize,
+    pub length: usize,
+}
+
+// What assembling answered.
+pub fn assembly_out(answer: Assembly) -> OlaAssembly
+    ensures { λ r. ⌜ r ≡ assemblyOf (numbered answer) ⌝ }
+{
+    match answer {
+        Assembly::Refused(refusal) => OlaAssembly {
+            refusal: encoder_refusals::refusal_number(refusal),
+            detail: encoder_refusals::refusal_detail(refusal),
+            labels: 0,
+            words: 0,
+            hosts: 0,
+            kept: 0,
+        },
+        Assembly::Assembled(totals) => OlaAssembly {
+            refusal: 0,
+            detail: 0,
+            labels: totals.labels as u64,
+            words: totals.words as u64,
+            hosts: totals.hosts as u64,
+            kept: totals.kept as u64,
+        },
+    }
+}
+
+// So many bytes were written.
+fn accepted_text(n: usize) -> OlaWritten
+    ensures { λ r. ⌜ r ≡ writtenOf (ok n) ⌝ }
+{
+    OlaWritten {
+        refusal: 0,
+        detail: 0,
+        written: n as u64,
+    }
+}
+
+// None were, by a refusal that has no detail.
+fn refused_text(number: u64) -> OlaWritten
+    ensures { λ r. ⌜ r ≡ writtenOf (refused number 0) ⌝ }
+{
+    OlaWritten {
+        refusal: number,
+        detail: 0,
+        written: 0,
+    }
+}
+
+// What writing bytecode answered.
+pub fn written_out(answer: Written) -> OlaWritten
+    ensures { λ r. ⌜ r ≡ writtenOf (writtenNumbered answer) ⌝ }
+{
+    match answer {
+        Written::Is(n) => accepted_text(n),
+        Written::Refused(refusal) => refused_text(23),
+    }
+}
+
+// The number of a row's refusal.
+fn row_number(refusal: RowRefusal) -> u64
+    ensures { λ r. ⌜ r ≡ rowNumber refusal ⌝ }
+{
+    match refusal {
+        RowRefusal::NumberTooLarge => 21,
+        RowRefusal::PlaceEmpty => 24,
+        RowRefusal::TextTooShort => 23,
+    }
+}
+
+// What writing a listing row answered.
+pub fn row_out(answer: RowWritten) -> OlaWritten
+    ensures { λ r. ⌜ r ≡ writtenOf (rowNumbered answer) ⌝ }
+{
+    match answer {
+        RowWritten::Is(n) => accepted_text(n),
+        RowWritten::Refused(refusal) => refused_text(row_number(refusal)),
+    }
+}
+
+// The number of a refusal from 14 to 19.
+fn open_number(refusal: OpenRefusal) -> u64
+    ensures { λ r. ⌜ r ≡ openNumber refusal ⌝ }
+{
+    match refusal {
+        OpenRefusal::TextTooLong => 14,
+        OpenRefusal::FirstWordUnreadable(line) => 15,
+        OpenRefusal::NoOperation(index) => 16,
+        OpenRefusal::LineTooMany(index) => 17,
+        OpenRefusal::SecondLineUnreadable(index) => 18,
+        OpenRefusal::RegisterMissing(index) => 19,
+    }
+}
+
+// And its detail.
+fn open_detail(refusal: OpenRefusal) -> u64
+    ensures { λ r. ⌜ r ≡ openDetail refusal ⌝ }
+{
+    match refusal {
+        OpenRefusal::TextTooLong => 0,
+        OpenRefusal::FirstWordUnreadable(line) => line as u64,
+        OpenRefusal::NoOperation(index) => index as u64,
+        OpenRefusal::LineTooMany(index) => index as u64,
+        OpenRefusal::SecondLineUnreadable(index) => index as u64,
+        OpenRefusal::RegisterMissing(index) => index as u64,
+    }
+}
+
+// What opening answered.
+pub fn opened_out(answer: Opening) -> OlaOpened
+    ensures { λ r. ⌜ r ≡ openedOf (openNumbered answer) ⌝ }
+{
+    match answer {
+        Opening::Accepted => OlaOpened {
+            refusal: 0,
+            detail: 0,
+        },
+        Opening::Refused(refusal) => OlaOpened {
+            refusal: open_number(refusal),
+            detail: open_detail(refusal),
+        },
+    }
+}
+
+// A step that was refused and stays where it was.
+fn refused_step(refusal: u64, detail: u64, line: u64) -> OlaStep
+    ensures { λ r. ⌜ r ≡ stepRefused refusal detail line ⌝ }
+{
+    let none = OlaPlace {
+        content: 0,
+        reg: 0,
+        number: 0,
+    };
+    let instruction = OlaInstruction {
+        opcode: 0,
+        op0: none,
+        op1: none,
+        dst: none,
+    };
+    OlaStep {
+        refusal,
+        detail,
+        line,
+        instruction,
+    }
+}
+
+// What a call of next found, and the line or offset reached.
+pub fn step_out(answer: Found, line: usize) -> OlaStep
+    ensures { λ r. ⌜ r ≡ stepOf (foundNumbered answer) line ⌝ }
+{
+    match answer {
+        Found::Is(instruction) => OlaStep {
+            refusal: 0,
+            detail: 0,
+            line: line as u64,
+            instruction: ola_places::instruction_out(instruction),
+        },
+        Found::Refused(refusal) => match refusal {
+            NextRefusal::Open(inner) => refused_step(
+                open_number(inner),
+                open_detail(inner),
+                line as u64,
+            ),
+            NextRefusal::NoneLeft => refused_step(20, 0, line as u64),
+        },
+    }
+}
+
+// The number of a refusal of one instruction.
+fn encode_number(refusal: EncodeRefusal) -> u64
+    ensures { λ r. ⌜ r ≡ encodeNumber refusal ⌝ }
+{
+    match refusal {
+        EncodeRefusal::NumberTooLarge => 21,
+        EncodeRefusal::Rejected(place) => 22,
+    }
+}
+
+// And its detail.
+fn encode_detail(refusal: EncodeRefusal) -> u64
+    ensures { λ r. ⌜ r ≡ encodeDetail refusal ⌝ }
+{
+    match refusal {
+        EncodeRefusal::NumberTooLarge => 0,
+        EncodeRefusal::Rejected(place) => place.index() as u64,
+    }
+}
+
+// What encoding one instruction answered.
+pub fn encoding_out(answer: Encoding) -> OlaEncoding
+    ensures { λ r. ⌜ r ≡ encodingOf (encodingNumbered answer) ⌝ }
+{
+    match answer {
+        Encoding::Is(words) => {
+            let first = words.first;
+            let second = words.second;
+            match second {
+                SecondWord::Number(number) => OlaEncoding {
+                    refusal: 0,
+                    detail: 0,
+                    count: 2,
+                    first,
+                    second: number,
+                },
+                SecondWord::Nothing => OlaEncoding {
+                    refusal: 0,
+                    detail: 0,
+                    count: 1,
+                    first,
+                    second: 0,
+                },
+            }
+        }
+        Encoding::Refused(refusal) => OlaEncoding {
+            refusal: encode_number(refusal),
+            detail: encode_detail(refusal),
+            count: 0,
+            first: 0,
+            second: 0,
+        },
+    }
+}

@@ -1,0 +1,173 @@
+// The C interface: include/ola.h declares these functions. Nothing but conversions.
+use ola_answers::OlaAssembly;
+use ola_answers::OlaEncoding;
+use ola_answers::OlaName;
+use ola_answers::OlaOpened;
+use ola_answers::OlaStep;
+use ola_answers::OlaWritten;
+use ola_places::InstructionNamed;
+use ola_places::OlaInstruction;
+use relocate::LabelEntry;
+ghost use mathlib.Core.Path.{_≡_};
+ghost use lib.ListN.{length};
+ghost use Rattle.relocate.specs.Relocate.{tabled};
+ghost use Rattle.relocate.specs.Columns.{tableLeft, columnLeft, kindOf, mappedOf, startOf, lengthOf, addressIn};
+ghost use Rattle.relocate_names.specs.Shortest.{shortestOf};
+ghost use Rattle.program.specs.Bytecode.{bytecodeWritten, textLeft};
+ghost use Rattle.program_bytecode.specs.Written.{countOf};
+ghost use Rattle.encoder.specs.Assemble.{assembled, assembledTotals, wordsLeft, hostsLeft};
+ghost use Rattle.decoder.specs.Open.{opened};
+ghost use Rattle.decoder.specs.Steps.{acceptedOf, stepped, steppedAt};
+ghost use Rattle.ola_places.specs.Places.{instructionIn};
+ghost use Rattle.ola_answers.specs.Answers.{assemblyOf, writtenOf, openedOf, namePart};
+ghost use Rattle.ola_c.specs.Exports.{lineStep, offsetStep, encodingNamed, listed, listedText};
+
+// Assembles a source with a prophet list over parallel arrays.
+#[no_mangle]
+pub extern "C" fn ola_assemble_parts(
+    source: &[u8],
+    prophets: &[u8],
+    kinds: &mut [u8],
+    mapped: &mut [bool],
+    starts: &mut [usize],
+    lengths: &mut [usize],
+    addresses: &mut [u64],
+    words: &mut [u64],
+    hosts: &mut [u64],
+) -> OlaAssembly
+    ensures { λ r. ⌜ r ≡ assemblyOf (assembledTotals (now (source .entry)) (now (prophets .entry)) (record { entries = (shortestOf (length (now (kinds .entry))) (length (now (mapped .entry))) (length (now (starts .entry))) (length (now (lengths .entry))) (length (now (addresses .entry)))); words = length (now (words .entry)); hosts = length (now (hosts .entry)) })) ⌝ }
+    ensures { λ _. ⌜ now (kinds .exit) ≡ columnLeft (tabled (now (source .entry)) (shortestOf (length (now (kinds .entry))) (length (now (mapped .entry))) (length (now (starts .entry))) (length (now (lengths .entry))) (length (now (addresses .entry))))) kindOf (now (kinds .entry)) ⌝ }
+    ensures { λ _. ⌜ now (mapped .exit) ≡ columnLeft (tabled (now (source .entry)) (shortestOf (length (now (kinds .entry))) (length (now (mapped .entry))) (length (now (starts .entry))) (length (now (lengths .entry))) (length (now (addresses .entry))))) mappedOf (now (mapped .entry)) ⌝ }
+    ensures { λ _. ⌜ now (starts .exit) ≡ columnLeft (tabled (now (source .entry)) (shortestOf (length (now (kinds .entry))) (length (now (mapped .entry))) (length (now (starts .entry))) (length (now (lengths .entry))) (length (now (addresses .entry))))) startOf (now (starts .entry)) ⌝ }
+    ensures { λ _. ⌜ now (lengths .exit) ≡ columnLeft (tabled (now (source .entry)) (shortestOf (length (now (kinds .entry))) (length (now (mapped .entry))) (length (now (starts .entry))) (length (now (lengths .entry))) (length (now (addresses .entry))))) lengthOf (now (lengths .entry)) ⌝ }
+    ensures { λ _. ⌜ now (addresses .exit) ≡ columnLeft (tabled (now (source .entry)) (shortestOf (length (now (kinds .entry))) (length (now (mapped .entry))) (length (now (starts .entry))) (length (now (lengths .entry))) (length (now (addresses .entry))))) addressIn (now (addresses .entry)) ⌝ }
+    ensures { λ _. ⌜ now (words .exit) ≡ wordsLeft (assembled (now (source .entry)) (now (prophets .entry)) (record { entries = (shortestOf (length (now (kinds .entry))) (length (now (mapped .entry))) (length (now (starts .entry))) (length (now (lengths .entry))) (length (now (addresses .entry)))); words = length (now (words .entry)); hosts = length (now (hosts .entry)) })) (now (words .entry)) ⌝ }
+    ensures { λ _. ⌜ now (hosts .exit) ≡ hostsLeft (assembled (now (source .entry)) (now (prophets .entry)) (record { entries = (shortestOf (length (now (kinds .entry))) (length (now (mapped .entry))) (length (now (starts .entry))) (length (now (lengths .entry))) (length (now (addresses .entry)))); words = length (now (words .entry)); hosts = length (now (hosts .entry)) })) (now (hosts .entry)) ⌝ }
+{
+    let answer = encoder_assemble::assemble_parts(
+        source,
+        prophets,
+        kinds,
+        mapped,
+        starts,
+        lengths,
+        addresses,
+        words,
+        hosts,
+    );
+    ola_answers::assembly_out(answer)
+}
+
+// Assembles a source with a prophet list over a table of entries.
+#[no_mangle]
+pub extern "C" fn ola_assemble(
+    source: &[u8],
+    prophets: &[u8],
+    table: &mut [LabelEntry],
+    words: &mut [u64],
+    hosts: &mut [u64],
+) -> OlaAssembly
+    ensures { λ r. ⌜ r ≡ assemblyOf (assembledTotals (now (source .entry)) (now (prophets .entry)) (record { entries = length (now (table .entry)); words = length (now (words .entry)); hosts = length (now (hosts .entry)) })) ⌝ }
+    ensures { λ _. ⌜ now (table .exit) ≡ tableLeft (now (source .entry)) (now (table .entry)) ⌝ }
+    ensures { λ _. ⌜ now (words .exit) ≡ wordsLeft (assembled (now (source .entry)) (now (prophets .entry)) (record { entries = length (now (table .entry)); words = length (now (words .entry)); hosts = length (now (hosts .entry)) })) (now (words .entry)) ⌝ }
+    ensures { λ _. ⌜ now (hosts .exit) ≡ hostsLeft (assembled (now (source .entry)) (now (prophets .entry)) (record { entries = length (now (table .entry)); words = length (now (words .entry)); hosts = length (now (hosts .entry)) })) (now (hosts .entry)) ⌝ }
+{
+    let answer = encoder_entries::assemble(source, prophets, table, words, hosts);
+    ola_answers::assembly_out(answer)
+}
+
+// The part of a source that an entry's name is.
+#[no_mangle]
+pub extern "C" fn ola_label_name(source: &[u8], entry: LabelEntry) -> OlaName
+    ensures { λ r. ⌜ r ≡ namePart (now (source .entry)) (entry .start) (entry .length) ⌝ }
+{
+    let start = entry.start;
+    let length = entry.length;
+    if source.len() < start {
+        return OlaName {
+            start: 0,
+            length: 0,
+        };
+    }
+    if source.len() - start < length {
+        return OlaName {
+            start: 0,
+            length: 0,
+        };
+    }
+    OlaName { start, length }
+}
+
+// Writes the bytecode text of words.
+#[no_mangle]
+pub extern "C" fn ola_write_bytecode(words: &[u64], text: &mut [u8]) -> OlaWritten
+    ensures { λ r. ⌜ r ≡ writtenOf (countOf (bytecodeWritten (now (words .entry)) (length (now (text .entry))))) ⌝ }
+    ensures { λ _. ⌜ now (text .exit) ≡ textLeft (bytecodeWritten (now (words .entry)) (length (now (text .entry)))) (now (text .entry)) ⌝ }
+{
+    let answer = program_bytecode::write_bytecode(words, text);
+    ola_answers::written_out(answer)
+}
+
+// Whether a text opens as bytecode.
+#[no_mangle]
+pub extern "C" fn ola_open(text: &[u8]) -> OlaOpened
+    ensures { λ r. ⌜ r ≡ openedOf (acceptedOf (opened (now (text .entry)))) ⌝ }
+{
+    ola_answers::opened_out(decoder_open::open_text(text))
+}
+
+// The instruction from a line on, and the line reached.
+#[no_mangle]
+pub extern "C" fn ola_next(text: &[u8], line: usize) -> OlaStep
+    ensures { λ r. ⌜ r ≡ lineStep (stepped (now (text .entry)) line) ⌝ }
+{
+    let step = decoder_next::next_line(text, line);
+    let found = step.found;
+    ola_answers::step_out(found, step.line)
+}
+
+// The instruction from an offset on, and the offset reached.
+#[no_mangle]
+pub extern "C" fn ola_next_at(text: &[u8], offset: usize) -> OlaStep
+    ensures { λ r. ⌜ r ≡ offsetStep (steppedAt (now (text .entry)) offset) ⌝ }
+{
+    let step = decoder_next::next_at(text, offset);
+    let found = step.found;
+    ola_answers::step_out(found, step.offset)
+}
+
+// The words of one instruction.
+#[no_mangle]
+pub extern "C" fn ola_encode(instruction: OlaInstruction) -> OlaEncoding
+    ensures { λ r. ⌜ r ≡ encodingNamed (instructionIn instruction) ⌝ }
+{
+    match ola_places::instruction_in(instruction) {
+        InstructionNamed::Nothing => OlaEncoding {
+            refusal: 255,
+            detail: 0,
+            count: 0,
+            first: 0,
+            second: 0,
+        },
+        InstructionNamed::Is(named) => ola_answers::encoding_out(program_encode::encode(named)),
+    }
+}
+
+// Writes the listing row of one instruction.
+#[no_mangle]
+pub extern "C" fn ola_listing_row(instruction: OlaInstruction, text: &mut [u8]) -> OlaWritten
+    ensures { λ r. ⌜ r ≡ listed (instructionIn instruction) (length (now (text .entry))) ⌝ }
+    ensures { λ _. ⌜ now (text .exit) ≡ listedText (instructionIn instruction) (now (text .entry)) ⌝ }
+{
+    match ola_places::instruction_in(instruction) {
+        InstructionNamed::Nothing => OlaWritten {
+            refusal: 255,
+            detail: 0,
+            written: 0,
+        },
+        InstructionNamed::Is(named) => {
+            let answer = program_listing::get_asm_form_code(named, text);
+            ola_answers::row_out(answer)
+        }
+    }
+}

@@ -1,0 +1,97 @@
+/* The Ola assembler and bytecode reader for C and other languages: target/staticlib/libola_c.a, which `rt staticlib ola_c` writes.
+ *
+ * Every function but ola_label_name answers a struct whose first field is a refusal: 0 means accepted, 1 to 24 are the refusals of the scope
+ * document, 255, which is this interface's own, an instruction whose numbers name none. On refusal every other field but the detail is 0 (a
+ * step's line stays where it was), and what was lent is as it was, but that refusals above 7 of assembling leave the label table filled.
+ *
+ * What a caller owes, and no function can test:
+ *  - each pointer points to as many elements as the length after it says, aligned as their type is; all of them may be read, and written where
+ *    the pointer is not const. Where the length is 0 nothing is read or written through the pointer, but it is not null then either;
+ *  - each bool, given or lent, is the byte 0 or 1, those of `mapped` before the call too;
+ *  - what is lent to be written overlaps nothing else that is lent to the same call, and nobody else writes or reads it until the call returns.
+ *    Buffers that are only read may overlap each other, and nobody writes them meanwhile;
+ *  - the thread has the stack that is said below.
+ * Nothing else is owed: any bytes are a source, a prophet list or a bytecode, any numbers an instruction or an entry, and any length of a buffer
+ * will do. Nothing is allocated, nothing is kept between calls, and calls from several threads do not disturb each other.
+ *
+ * The stack that a call takes, measured on x86-64 with a source of 65,536 bytes, a prophet list of 16,384 and their bytecode:
+ *    ola_assemble          less than 589,824 bytes: it has a label table of its own there
+ *    ola_assemble_parts    less than 4,096 bytes
+ *    every other           less than 1,024 bytes
+ */
+#ifndef OLA_H
+#define OLA_H
+
+#include <stdbool.h>
+#include <stddef.h>
+#include <stdint.h>
+
+#ifdef __cplusplus
+extern "C" {
+#endif
+
+/* An entry of the label table. Kind: 0 call, 1 .LBL, 2 prophet. Start and length: the name's place in the source, without its colon. Address:
+   what the row marks (a prophet label's host); unmapped: address 0. */
+typedef struct { uint8_t kind; bool mapped; size_t start, length; uint64_t address; } ola_label;
+
+/* What assembling answers: how many table entries, words and hosts were written, and how many prophets are kept. */
+typedef struct { uint64_t refusal, detail, labels, words, hosts, kept; } ola_assembly;
+
+/* What writing a text answers: how many bytes were written. */
+typedef struct { uint64_t refusal, detail, written; } ola_written;
+
+/* Whether a text opens as bytecode. */
+typedef struct { uint64_t refusal, detail; } ola_opened;
+
+/* The contents of a place. Content: 0 empty, 1 number, 2 register, 3 register with offset, 4 register with factor, 5 special register (reg 0 pc,
+   1 psp). A number, offset or factor is in `number`. What a content does not have is 0 when given and not looked at when taken. */
+typedef struct { uint8_t content, reg; uint64_t number; } ola_place;
+
+/* An instruction. Opcode: its place in the order of OlaOpcode, from 0 for add to 26 for log. */
+typedef struct { uint8_t opcode; ola_place op0, op1, dst; } ola_instruction;
+
+/* What a call of next answers, and the line reached; of ola_next_at, the offset reached. */
+typedef struct { uint64_t refusal, detail, line; ola_instruction instruction; } ola_step;
+
+/* The words of one instruction: one or two of them. */
+typedef struct { uint64_t refusal, detail, count, first, second; } ola_encoding;
+
+/* A name as a part of the source. */
+typedef struct { size_t start, length; } ola_name;
+
+/* Assembles a source with a prophet list into a table of entries, words and hosts. Refusals 1 to 13. */
+ola_assembly ola_assemble(const uint8_t *source, size_t source_len, const uint8_t *prophets, size_t prophets_len,
+                          ola_label *table, size_t table_len, uint64_t *words, size_t words_len, uint64_t *hosts, size_t hosts_len);
+
+/* The same with the table as five arrays; 7 where the shortest of them is shorter than the label rows. */
+ola_assembly ola_assemble_parts(const uint8_t *source, size_t source_len, const uint8_t *prophets, size_t prophets_len,
+                          uint8_t *kinds, size_t kinds_len, bool *mapped, size_t mapped_len, size_t *starts, size_t starts_len,
+                          size_t *lengths, size_t lengths_len, uint64_t *addresses, size_t addresses_len,
+                          uint64_t *words, size_t words_len, uint64_t *hosts, size_t hosts_len);
+
+/* The part of the source that an entry's name is; start 0 and length 0 where the entry reaches past the source's end. Refuses nothing. */
+ola_name ola_label_name(const uint8_t *source, size_t source_len, ola_label entry);
+
+/* Writes the bytecode text of words, without a final line feed. Refusal 23. */
+ola_written ola_write_bytecode(const uint64_t *words, size_t words_len, uint8_t *text, size_t text_len);
+
+/* Whether a text opens as bytecode. Refusals 14 to 19. */
+ola_opened ola_open(const uint8_t *text, size_t text_len);
+
+/* The instruction from a line on, counted from 0, and the line after it. Refusals 14 to 20. Each call counts the lines from the text's start. */
+ola_step ola_next(const uint8_t *text, size_t text_len, size_t line);
+
+/* The same from the byte at an offset on, and the offset after it. A run from offset 0 gives the same instructions and reads the text once. */
+ola_step ola_next_at(const uint8_t *text, size_t text_len, size_t offset);
+
+/* The words of one instruction. Refusals 21, 22 and 255. */
+ola_encoding ola_encode(ola_instruction instruction);
+
+/* Writes the listing row of one instruction, without a line feed. Refusals 21, 24, 23 and 255. */
+ola_written ola_listing_row(ola_instruction instruction, uint8_t *text, size_t text_len);
+
+#ifdef __cplusplus
+}
+#endif
+
+#endif

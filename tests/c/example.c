@@ -1,0 +1,426 @@
+/* Calls every function of include/ola.h on the customer's printing source and on inputs that are refused, and compares what they
+   answer and leave with values typed from document 01 and from its readings. Prints what was compared; ends with 1 on a difference. */
+#include <stdio.h>
+#include <string.h>
+
+#include "ola.h"
+
+static int faults;
+
+/* What stands in a buffer before a call. */
+#define MARK 0xA5
+
+/* p of document 01, "Numbers". */
+static const uint64_t ORDER = UINT64_C(0xFFFFFFFF00000001);
+
+static void say(const char *what, int right)
+{
+    printf("%s %s\n", right ? "right" : "WRONG", what);
+    if (!right)
+        faults += 1;
+}
+
+static const uint8_t *bytes(const char *s)
+{
+    return (const uint8_t *)s;
+}
+
+/* Every byte of a buffer is the mark. */
+static int untouched(const void *buffer, size_t size)
+{
+    const uint8_t *b = buffer;
+    for (size_t i = 0; i < size; i++)
+        if (b[i] != MARK)
+            return 0;
+    return 1;
+}
+
+/* ---- what is lent to assembling */
+
+#define ENTRIES 8
+#define WORDS 8
+#define HOSTS 4
+
+static uint8_t kinds[ENTRIES];
+static bool mapped[ENTRIES];
+static size_t starts[ENTRIES], lengths[ENTRIES];
+static uint64_t addresses[ENTRIES], words[WORDS], hosts[HOSTS];
+
+static void clear(void)
+{
+    memset(kinds, MARK, sizeof kinds);
+    memset(mapped, 0, sizeof mapped);
+    memset(starts, MARK, sizeof starts);
+    memset(lengths, MARK, sizeof lengths);
+    memset(addresses, MARK, sizeof addresses);
+    memset(words, MARK, sizeof words);
+    memset(hosts, MARK, sizeof hosts);
+}
+
+static ola_assembly parts(const char *source, size_t source_len, const char *prophets, size_t entries, size_t word_room, size_t host_room)
+{
+    return ola_assemble_parts(bytes(source), source_len, bytes(prophets), strlen(prophets), kinds, entries, mapped, entries,
+                              starts, entries, lengths, entries, addresses, entries, words, word_room, hosts, host_room);
+}
+
+static int assembly_is(ola_assembly a, uint64_t refusal, uint64_t detail, uint64_t labels, uint64_t n, uint64_t host_count, uint64_t kept)
+{
+    return a.refusal == refusal && a.detail == detail && a.labels == labels && a.words == n && a.hosts == host_count && a.kept == kept;
+}
+
+/* A source that is refused: number and detail, every count 0, words and hosts untouched; the table too, up to refusal 7. */
+static void declines(const char *what, const char *source, const char *prophets, size_t entries, size_t word_room, size_t host_room,
+                     uint64_t refusal, uint64_t detail)
+{
+    clear();
+    ola_assembly a = parts(source, strlen(source), prophets, entries, word_room, host_room);
+    say(what, assembly_is(a, refusal, detail, 0, 0, 0, 0) && untouched(words, sizeof words) && untouched(hosts, sizeof hosts)
+              && (refusal > 7 || (untouched(kinds, sizeof kinds) && untouched(starts, sizeof starts)
+                                  && untouched(lengths, sizeof lengths) && untouched(addresses, sizeof addresses))));
+}
+
+/* ---- document 01, "The printing program" */
+
+static const char SOURCE[] = "f:\nret\nmain:\nmov r1 -1\ncall f\n.PROPHET0_0:\nend";
+
+static const uint64_t PRINTED[6] = {
+    UINT64_C(0x4000000208000000), UINT64_C(0xffffffff00000000), UINT64_C(0x4000000001000000),
+    UINT64_C(0x5), UINT64_C(0x0000000000100000), UINT64_C(0x0000000000800000),
+};
+
+static const char BYTECODE[] =
+    "0x4000000208000000\n0xffffffff00000000\n0x4000000001000000\n0x5\n0x0000000000100000\n0x0000000000800000";
+
+/* The label rows in sorted order, main's first; f marks ret, a prophet label its host. */
+static const ola_label TABLE[3] = {
+    { .kind = 0, .mapped = true, .start = 7, .length = 4, .address = 0 },
+    { .kind = 2, .mapped = true, .start = 30, .length = 11, .address = 2 },
+    { .kind = 0, .mapped = true, .start = 0, .length = 1, .address = 5 },
+};
+
+static const char *const NAMES[3] = { "main", ".PROPHET0_0", "f" };
+
+static ola_label entry_at(size_t i)
+{
+    ola_label e = { .kind = kinds[i], .mapped = mapped[i], .start = starts[i], .length = lengths[i], .address = addresses[i] };
+    return e;
+}
+
+static int same_entry(ola_label a, ola_label b)
+{
+    return a.kind == b.kind && a.mapped == b.mapped && a.start == b.start && a.length == b.length && a.address == b.address;
+}
+
+static void assembling(void)
+{
+    clear();
+    ola_assembly a = parts(SOURCE, strlen(SOURCE), "label\n.PROPHET0_0", ENTRIES, WORDS, HOSTS);
+    say("assemble_parts: the printing source is accepted: 3 labels, 6 words, 1 host, 1 kept", assembly_is(a, 0, 0, 3, 6, 1, 1));
+    say("assemble_parts: its words are those of document 01", memcmp(words, PRINTED, sizeof PRINTED) == 0);
+    say("assemble_parts: the prophet's host is 2", hosts[0] == 2);
+    int right = 1;
+    for (size_t i = 0; i < 3; i++)
+        right = right && same_entry(entry_at(i), TABLE[i]);
+    say("assemble_parts: its label table", right);
+    say("assemble_parts: what stands past the counts is untouched",
+        untouched(words + 6, sizeof words - 6 * sizeof words[0]) && untouched(hosts + 1, sizeof hosts - sizeof hosts[0])
+        && untouched(kinds + 3, sizeof kinds - 3) && untouched(addresses + 3, sizeof addresses - 3 * sizeof addresses[0]));
+
+    declines("assemble_parts: 2 with the offset of a byte above 127", "main:\nmov r1 \x80\n", "", ENTRIES, WORDS, HOSTS, 2, 13);
+    declines("assemble_parts: 3 with the rows before it", "main:\n\nmload\n", "", ENTRIES, WORDS, HOSTS, 3, 1);
+    declines("assemble_parts: 4 for the empty source", "", "", ENTRIES, WORDS, HOSTS, 4, 0);
+    declines("assemble_parts: 5 without main", "f:\nret\n", "", ENTRIES, WORDS, HOSTS, 5, 0);
+    declines("assemble_parts: 6 for two mains", "main:\nend\nmain:\nend\n", "", ENTRIES, WORDS, HOSTS, 6, 0);
+    declines("assemble_parts: 7 for a short table", SOURCE, "", 2, WORDS, HOSTS, 7, 0);
+    declines("assemble_parts: 8 for another first line", SOURCE, "labels\n", ENTRIES, WORDS, HOSTS, 8, 0);
+    declines("assemble_parts: 9 with the prophet's index", SOURCE, "label\n.PROPHET0_0\n.PROPHET0_1", ENTRIES, WORDS, HOSTS, 9, 1);
+    declines("assemble_parts: 10 with the instruction's index", "main:\nadd r1 5 r2\ncall g", "", ENTRIES, WORDS, HOSTS, 10, 1);
+    declines("assemble_parts: 11 for mload from a register", "main:\nmload r1 r2", "", ENTRIES, WORDS, HOSTS, 11, 0);
+    declines("assemble_parts: 12 for a number in op0", "main:\nadd r1 5 r2", "", ENTRIES, WORDS, HOSTS, 12, 0);
+    declines("assemble_parts: 13 for few word entries", SOURCE, "", ENTRIES, 5, HOSTS, 13, 0);
+    declines("assemble_parts: 13 for few host entries", SOURCE, "label\n.PROPHET0_0", ENTRIES, WORDS, 0, 13, 0);
+
+    static char long_source[65537];
+    memset(long_source, ' ', sizeof long_source);
+    say("assemble_parts: 1 for 65,537 bytes", assembly_is(parts(long_source, sizeof long_source, "", ENTRIES, WORDS, HOSTS), 1, 0, 0, 0, 0, 0));
+    say("assemble_parts: 4 for 65,536 bytes of spaces", assembly_is(parts(long_source, 65536, "", ENTRIES, WORDS, HOSTS), 4, 0, 0, 0, 0, 0));
+}
+
+/* The same with the table as entries. */
+static void assembling_entries(void)
+{
+    static ola_label table[ENTRIES];
+    static const uint8_t marked = MARK;
+    const size_t past = 3;
+    clear();
+    for (size_t i = 0; i < ENTRIES; i++)
+        table[i] = (ola_label){ .kind = marked, .mapped = false, .start = marked, .length = marked, .address = marked };
+    const ola_label mark = table[0];
+    const char *prophets = "label\n.PROPHET0_0";
+    ola_assembly a = ola_assemble(bytes(SOURCE), strlen(SOURCE), bytes(prophets), strlen(prophets), table, ENTRIES, words, WORDS, hosts, HOSTS);
+    say("assemble: the printing source is accepted: 3 labels, 6 words, 1 host, 1 kept", assembly_is(a, 0, 0, 3, 6, 1, 1));
+    say("assemble: its words are those of document 01", memcmp(words, PRINTED, sizeof PRINTED) == 0);
+    say("assemble: the prophet's host is 2", hosts[0] == 2);
+    int right = 1;
+    for (size_t i = 0; i < past; i++)
+        right = right && same_entry(table[i], TABLE[i]);
+    say("assemble: its label table", right);
+    right = untouched(words + 6, sizeof words - 6 * sizeof words[0]) && untouched(hosts + 1, sizeof hosts - sizeof hosts[0]);
+    for (size_t i = past; i < ENTRIES; i++)
+        right = right && same_entry(table[i], mark);
+    say("assemble: what stands past the counts is untouched", right);
+
+    clear();
+    for (size_t i = 0; i < ENTRIES; i++)
+        table[i] = mark;
+    a = ola_assemble(bytes(SOURCE), strlen(SOURCE), bytes(""), 0, table, 2, words, WORDS, hosts, HOSTS);
+    say("assemble: 7 for a short table, which stays as it was",
+        assembly_is(a, 7, 0, 0, 0, 0, 0) && same_entry(table[0], mark) && same_entry(table[1], mark) && untouched(words, sizeof words));
+    a = ola_assemble(bytes(SOURCE), strlen(SOURCE), bytes(""), 0, table, ENTRIES, words, 5, hosts, HOSTS);
+    say("assemble: 13 for few word entries, with the table filled",
+        assembly_is(a, 13, 0, 0, 0, 0, 0) && same_entry(table[0], TABLE[0]) && same_entry(table[2], TABLE[2]) && untouched(words, sizeof words));
+    a = ola_assemble(bytes("main:\nmload r1 r2"), 17, bytes(""), 0, table, ENTRIES, words, WORDS, hosts, HOSTS);
+    say("assemble: 11 for mload from a register", assembly_is(a, 11, 0, 0, 0, 0, 0));
+}
+
+static void naming(void)
+{
+    int right = 1;
+    for (size_t i = 0; i < 3; i++) {
+        ola_name name = ola_label_name(bytes(SOURCE), strlen(SOURCE), TABLE[i]);
+        right = right && name.length == strlen(NAMES[i]) && memcmp(SOURCE + name.start, NAMES[i], name.length) == 0;
+    }
+    say("label_name: main, .PROPHET0_0, f", right);
+    ola_label at_end = { .kind = 0, .mapped = false, .start = strlen(SOURCE) - 3, .length = 3, .address = 0 };
+    ola_name name = ola_label_name(bytes(SOURCE), strlen(SOURCE), at_end);
+    say("label_name: a name may reach the source's end", name.start == strlen(SOURCE) - 3 && name.length == 3);
+    at_end.length = 4;
+    name = ola_label_name(bytes(SOURCE), strlen(SOURCE), at_end);
+    say("label_name: empty where the entry reaches past it", name.start == 0 && name.length == 0);
+    at_end.start = SIZE_MAX;
+    at_end.length = SIZE_MAX;
+    name = ola_label_name(bytes(SOURCE), strlen(SOURCE), at_end);
+    say("label_name: empty where start and length are the greatest", name.start == 0 && name.length == 0);
+}
+
+/* ---- instructions */
+
+static ola_place place(uint8_t content, uint8_t reg, uint64_t number)
+{
+    ola_place p = { .content = content, .reg = reg, .number = number };
+    return p;
+}
+
+static ola_instruction instruction(uint8_t opcode, ola_place op0, ola_place op1, ola_place dst)
+{
+    ola_instruction i = { .opcode = opcode, .op0 = op0, .op1 = op1, .dst = dst };
+    return i;
+}
+
+static int same_place(ola_place a, ola_place b)
+{
+    return a.content == b.content && a.reg == b.reg && a.number == b.number;
+}
+
+static int same_instruction(ola_instruction a, ola_instruction b)
+{
+    return a.opcode == b.opcode && same_place(a.op0, b.op0) && same_place(a.op1, b.op1) && same_place(a.dst, b.dst);
+}
+
+/* Places in OlaOpcode's order, from 0. */
+enum { ADD = 0, MOV = 4, JMP = 5, CALL = 7, RET = 8, MLOAD = 9, END = 11 };
+
+#define NONE place(0, 0, 0)
+#define NUMBER(n) place(1, 0, n)
+#define REGISTER(r) place(2, r, 0)
+#define FACTOR(r, n) place(4, r, n)
+#define PSP place(5, 1, 0)
+
+/* The printing source's instructions, and the line and the offset after each in its bytecode. */
+static void canonical(ola_instruction program[4], uint64_t lines[4], uint64_t offsets[4])
+{
+    program[0] = instruction(MOV, NONE, NUMBER(ORDER - 1), REGISTER(1));
+    program[1] = instruction(CALL, NONE, NUMBER(5), NONE);
+    program[2] = instruction(END, NONE, NONE, NONE);
+    program[3] = instruction(RET, NONE, NONE, NONE);
+    const uint64_t line[4] = { 2, 4, 5, 6 };
+    const uint64_t offset[4] = { 38, 61, 80, 98 };
+    memcpy(lines, line, sizeof line);
+    memcpy(offsets, offset, sizeof offset);
+}
+
+static int step_is(ola_step s, uint64_t refusal, uint64_t detail, uint64_t line, ola_instruction i)
+{
+    return s.refusal == refusal && s.detail == detail && s.line == line && same_instruction(s.instruction, i);
+}
+
+static ola_opened opens(const char *text)
+{
+    return ola_open(bytes(text), strlen(text));
+}
+
+static int opened_is(ola_opened o, uint64_t refusal, uint64_t detail)
+{
+    return o.refusal == refusal && o.detail == detail;
+}
+
+static void writing_and_opening(void)
+{
+    uint8_t text[120];
+    size_t length = strlen(BYTECODE);
+    memset(text, MARK, sizeof text);
+    ola_written w = ola_write_bytecode(PRINTED, 6, text, sizeof text);
+    say("write_bytecode: the printing source's bytecode, 98 bytes",
+        w.refusal == 0 && w.detail == 0 && w.written == 98 && length == 98 && memcmp(text, BYTECODE, 98) == 0
+        && untouched(text + 98, sizeof text - 98));
+    memset(text, MARK, sizeof text);
+    w = ola_write_bytecode(PRINTED, 6, text, 97);
+    say("write_bytecode: 23 for 97 bytes, the text untouched", w.refusal == 23 && w.detail == 0 && w.written == 0 && untouched(text, sizeof text));
+
+    say("open: that bytecode is accepted", opened_is(opens(BYTECODE), 0, 0));
+    say("open: a first word alone is accepted", opened_is(opens("0x4000000001000000"), 0, 0));
+    say("open: 15 with the line", opened_is(opens("0x0000000000800000\n0x0000000000800000\nret"), 15, 2));
+    say("open: 16 with the instruction's index", opened_is(opens("0x0000000000800000\n0x1"), 16, 1));
+    say("open: 17 for add with bit 22 and a following line", opened_is(opens("0x0000000080400000\n0x5"), 17, 0));
+    say("open: 18 for a second line that is no number", opened_is(opens("0x4000000001000000\nff"), 18, 0));
+    say("open: 19 for mload without dst", opened_is(opens("0x4040000000400000\n0x0"), 19, 0));
+    static uint8_t long_text[524289];
+    memset(long_text, '0', sizeof long_text);
+    say("open: 14 for 524,289 bytes", opened_is(ola_open(long_text, sizeof long_text), 14, 0));
+}
+
+static void reading(void)
+{
+    ola_instruction program[4], none = instruction(0, NONE, NONE, NONE);
+    uint64_t lines[4], offsets[4];
+    canonical(program, lines, offsets);
+    const uint8_t *text = bytes(BYTECODE);
+    size_t length = strlen(BYTECODE), line = 0, offset = 0;
+    int right = 1;
+    for (size_t i = 0; i < 4; i++) {
+        ola_step s = ola_next(text, length, line);
+        right = right && step_is(s, 0, 0, lines[i], program[i]);
+        line = s.line;
+    }
+    say("next: mov, call, end, ret, each with the line after it", right);
+    say("next: 20 after them, and the line stays", step_is(ola_next(text, length, line), 20, 0, 6, none));
+    say("next: 20 past the end", step_is(ola_next(text, length, 1000), 20, 0, 1000, none));
+    say("next: 15 with index 0 for the line read", step_is(ola_next(bytes("0x800000\nret"), 12, 1), 15, 0, 1, none));
+    right = 1;
+    for (size_t i = 0; i < 4; i++) {
+        ola_step s = ola_next_at(text, length, offset);
+        right = right && step_is(s, 0, 0, offsets[i], program[i]);
+        offset = s.line;
+    }
+    say("next_at: the same by offsets", right);
+    say("next_at: 20 after them, and the offset stays", step_is(ola_next_at(text, length, offset), 20, 0, 98, none));
+    say("next_at: 20 past the end", step_is(ola_next_at(text, length, SIZE_MAX), 20, 0, UINT64_MAX, none));
+    say("next: 0x4000000001000000 and 10 is call 10, not 16",
+        step_is(ola_next(bytes("0x4000000001000000\n10"), 21, 0), 0, 0, 2, instruction(CALL, NONE, NUMBER(10), NONE)));
+    say("next: 0x0000000600800000 reads dst r1, not r2",
+        step_is(ola_next(bytes("0x0000000600800000"), 18, 0), 0, 0, 1, instruction(RET, NONE, NONE, REGISTER(1))));
+    say("next: 0x0000000208000000 is mov r1 psp",
+        step_is(ola_next(bytes("0x0000000208000000"), 18, 0), 0, 0, 1, instruction(MOV, NONE, PSP, REGISTER(1))));
+}
+
+static int encoding_is(ola_encoding e, uint64_t refusal, uint64_t detail, uint64_t count, uint64_t first, uint64_t second)
+{
+    return e.refusal == refusal && e.detail == detail && e.count == count && e.first == first && e.second == second;
+}
+
+static void encoding(void)
+{
+    say("encode: mload r1 [r2]", encoding_is(ola_encode(instruction(MLOAD, REGISTER(2), NUMBER(0), REGISTER(1))), 0, 0, 2,
+                                            UINT64_C(0x4040000200400000), 0));
+    say("encode: mload r1 [r2,r3]", encoding_is(ola_encode(instruction(MLOAD, REGISTER(2), FACTOR(3, 1), REGISTER(1))), 0, 0, 2,
+                                               UINT64_C(0x0040200200400000), 1));
+    say("encode: mov r1 psp has one word", encoding_is(ola_encode(instruction(MOV, NONE, PSP, REGISTER(1))), 0, 0, 1,
+                                                       UINT64_C(0x0000000208000000), 0));
+    say("encode: 21 for a number of p", encoding_is(ola_encode(instruction(MOV, NONE, NUMBER(ORDER), REGISTER(1))), 21, 0, 0, 0, 0));
+    say("encode: 22 with place 0 for a number in op0", encoding_is(ola_encode(instruction(ADD, NUMBER(5), REGISTER(2), REGISTER(1))), 22, 0, 0, 0, 0));
+    say("encode: 22 with place 1 for psp outside mov", encoding_is(ola_encode(instruction(ADD, REGISTER(2), PSP, REGISTER(1))), 22, 1, 0, 0, 0));
+    say("encode: 22 with place 2 for a number in dst", encoding_is(ola_encode(instruction(ADD, REGISTER(2), REGISTER(3), NUMBER(5))), 22, 2, 0, 0, 0));
+    say("encode: 255 for operation 27", encoding_is(ola_encode(instruction(27, NONE, NONE, NONE)), 255, 0, 0, 0, 0));
+    say("encode: 255 for content 6", encoding_is(ola_encode(instruction(RET, place(6, 0, 0), NONE, NONE)), 255, 0, 0, 0, 0));
+    say("encode: 255 for register 10", encoding_is(ola_encode(instruction(RET, NONE, place(2, 10, 0), NONE)), 255, 0, 0, 0, 0));
+    say("encode: 255 for special register 2", encoding_is(ola_encode(instruction(RET, NONE, NONE, place(5, 2, 0))), 255, 0, 0, 0, 0));
+    ola_instruction program[4];
+    uint64_t lines[4], offsets[4];
+    canonical(program, lines, offsets);
+    ola_encoding e = ola_encode(program[0]);
+    say("encode: what next gave encodes to the words read", encoding_is(e, 0, 0, 2, PRINTED[0], PRINTED[1]));
+}
+
+/* A row, or its refusal, in a text of so many bytes; what is not written is untouched. */
+static void lists(const char *what, ola_instruction i, size_t room, uint64_t refusal, const char *row)
+{
+    uint8_t text[64];
+    memset(text, MARK, sizeof text);
+    ola_written w = ola_listing_row(i, text, room);
+    size_t n = strlen(row);
+    say(what, w.refusal == refusal && w.detail == 0 && w.written == n && memcmp(text, row, n) == 0 && untouched(text + n, sizeof text - n));
+}
+
+static void listing(void)
+{
+    lists("listing_row: mload r1 [r2+0x0]", instruction(MLOAD, REGISTER(2), NUMBER(0), REGISTER(1)), 64, 0, "mload r1 [r2+0x0]");
+    lists("listing_row: mload r1 [r2+0x1*r3]", instruction(MLOAD, REGISTER(2), FACTOR(3, 1), REGISTER(1)), 64, 0, "mload r1 [r2+0x1*r3]");
+    lists("listing_row: mov r1 psp, in a text of its length", instruction(MOV, NONE, PSP, REGISTER(1)), 10, 0, "mov r1 psp");
+    lists("listing_row: ret lists no place", instruction(RET, NONE, NUMBER(5), REGISTER(1)), 64, 0, "ret");
+    lists("listing_row: 23 for a text one byte short", instruction(MOV, NONE, PSP, REGISTER(1)), 9, 23, "");
+    lists("listing_row: 24 for a place that the row needs", instruction(MOV, NONE, NONE, REGISTER(1)), 64, 24, "");
+    lists("listing_row: 21 before 24", instruction(MOV, NUMBER(ORDER), NONE, REGISTER(1)), 64, 21, "");
+    lists("listing_row: 255 for operation 27", instruction(27, NONE, NONE, NONE), 64, 255, "");
+}
+
+/* ---- the longest source: main and as many rows `jmp 1` as 65,536 bytes hold */
+
+#define JUMPS 10921
+
+static void longest(void)
+{
+    static uint8_t source[65536], text[JUMPS * 23];
+    static uint64_t many[2 * JUMPS];
+    size_t length = 6;
+    memcpy(source, "main:\n", 6);
+    for (size_t i = 0; i < JUMPS; i++) {
+        memcpy(source + length, "jmp 1\n", 6);
+        length += 6;
+    }
+    ola_assembly a = ola_assemble_parts(source, length, bytes(""), 0, kinds, ENTRIES, mapped, ENTRIES, starts, ENTRIES, lengths, ENTRIES,
+                                        addresses, ENTRIES, many, 2 * JUMPS, hosts, HOSTS);
+    int right = assembly_is(a, 0, 0, 1, 2 * JUMPS, 0, 0);
+    for (size_t i = 0; i < JUMPS; i++)
+        right = right && many[2 * i] == UINT64_C(0x4000000004000000) && many[2 * i + 1] == 1;
+    say("assemble_parts: 10,921 jumps in 65,532 bytes", right);
+    ola_written w = ola_write_bytecode(many, 2 * JUMPS, text, sizeof text);
+    say("write_bytecode: their text, 23 bytes a jump but for the last line feed", w.refusal == 0 && w.written == JUMPS * 23 - 1);
+    say("open: that text", opened_is(ola_open(text, w.written), 0, 0));
+    size_t offset = 0, read = 0;
+    for (;;) {
+        ola_step s = ola_next_at(text, w.written, offset);
+        if (s.refusal != 0) {
+            say("next_at: each of them, and then 20", s.refusal == 20 && read == JUMPS && s.line == w.written);
+            break;
+        }
+        if (!same_instruction(s.instruction, instruction(JMP, NONE, NUMBER(1), NONE)))
+            break;
+        read += 1;
+        offset = s.line;
+    }
+    say("next_at: no other instruction among them", read == JUMPS);
+}
+
+int main(void)
+{
+    assembling();
+    assembling_entries();
+    naming();
+    writing_and_opening();
+    reading();
+    encoding();
+    listing();
+    longest();
+    printf("%d differences\n", faults);
+    return faults == 0 ? 0 : 1;
+}
