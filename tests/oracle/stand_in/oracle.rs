@@ -78,10 +78,10 @@ fn relocate_refusal(text: &str, prophets: &[&str]) -> (u64, u64) {
         return (9, index as u64);
     }
     let inner = text.strip_prefix("asm relocate err ==> ").unwrap();
-    if inner.contains("no scope found") {
+    if inner == "generate scopes error, no scope found" {
         return (4, 0);
     }
-    if inner.contains("no main scope found") {
+    if inner == "generate scopes error, no main scope found" {
         return (5, 0);
     }
     let count = inner.strip_prefix("line ").unwrap();
@@ -283,14 +283,15 @@ fn decoded(lines: &[&str]) -> Answer<Vec<Instruction>> {
     let run = || match decode_binary_program_to_instructions(program) {
         Ok(list) => Answer::Accepted(list.iter().map(seen).collect()),
         Err(text) => Answer::Refused(
+            // A text of 18 ends with the line itself, so its beginning is asked first.
             if text.starts_with("Convert str to u64 failed") {
                 15
+            } else if text.starts_with("Immediate") {
+                18
             } else if text.contains("no opcode matched") {
                 16
             } else if text.contains("length should be") {
                 17
-            } else if text.starts_with("Immediate") {
-                18
             } else {
                 assert!(text.starts_with("No matched"), "{text}");
                 19
@@ -324,7 +325,7 @@ pub fn decode(bytecode: &str) -> Answer<Vec<Instruction>> {
         let middle = (low + high) / 2;
         let found = match decoded(&lines[..middle]) {
             Answer::Refused(k, _) => kind != 15 || k == 15,
-            Answer::Panicked => true,
+            Answer::Panicked => kind != 15,
             Answer::Accepted(_) => false,
         };
         if found {
@@ -357,4 +358,29 @@ pub fn next(bytecode: &str, line: usize) -> Answer<(Instruction, usize)> {
         }
     }
     Answer::Refused(20, 0)
+}
+
+// ---- the same functions with nothing around them, for measuring
+
+/// A source as `asm_relocate` takes it.
+#[derive(Clone)]
+pub struct Bundle(relocate::AsmBundle);
+
+pub fn bundled(source: &str) -> Bundle {
+    Bundle(bundle(source, &[]))
+}
+
+/// `asm_relocate` and `encode_to_binary` of a source that both accept.
+pub fn assemble_bundle(bundle: Bundle) -> BinaryProgram {
+    encoder::encode_to_binary(relocate::asm_relocate(bundle.0).unwrap()).unwrap()
+}
+
+/// A bytecode as `decode_binary_program_to_instructions` takes it.
+pub fn program_of(bytecode: &str) -> BinaryProgram {
+    BinaryProgram { bytecode: bytecode.to_string(), prophets: vec![], debug_info: None }
+}
+
+/// `decode_binary_program_to_instructions` of a bytecode that it accepts.
+pub fn decode_program(program: BinaryProgram) -> Vec<BinaryInstruction> {
+    decode_binary_program_to_instructions(program).unwrap()
 }

@@ -1,25 +1,26 @@
 //! The crate `regex` with its compiled patterns kept, so that the same files can be run at scale: they compile every pattern anew for
-//! every row.
+//! every row. A kept pattern is lent and not cloned, since a clone would begin with empty caches.
 use std::cell::RefCell;
-use std::collections::HashMap;
 
 pub use real_regex::{Captures, Error, Match};
 
-#[derive(Clone)]
-pub struct Regex(real_regex::Regex);
+#[derive(Clone, Copy)]
+pub struct Regex(&'static real_regex::Regex);
 
 thread_local! {
-    static KEPT: RefCell<HashMap<String, real_regex::Regex>> = RefCell::new(HashMap::new());
+    /// Patterns in the order of their first use, each with the place of its text: the files name theirs by literals, so the place finds it at once.
+    static KEPT: RefCell<Vec<(*const u8, String, &'static real_regex::Regex)>> = RefCell::new(Vec::new());
 }
 
 impl Regex {
     pub fn new(pattern: &str) -> Result<Regex, Error> {
         KEPT.with(|kept| {
-            if let Some(found) = kept.borrow().get(pattern) {
-                return Ok(Regex(found.clone()));
+            let found = kept.borrow().iter().find(|(place, text, _)| *place == pattern.as_ptr() && text == pattern).map(|(_, _, made)| *made);
+            if let Some(made) = found {
+                return Ok(Regex(made));
             }
-            let made = real_regex::Regex::new(pattern)?;
-            kept.borrow_mut().insert(pattern.to_string(), made.clone());
+            let made: &'static real_regex::Regex = Box::leak(Box::new(real_regex::Regex::new(pattern)?));
+            kept.borrow_mut().push((pattern.as_ptr(), pattern.to_string(), made));
             Ok(Regex(made))
         })
     }

@@ -1,0 +1,41 @@
+//! The sources that are measured, the same in every build.
+
+/// Scopes of eleven rows each, of the operations of ordinary programs, main last, up to so many bytes.
+fn ordinary(size: usize) -> String {
+    let main = "main:\nadd r9 r9 4\nmov r1 7\ncall f0\nmstore [r9,-1] r0\nend\n";
+    let mut text = String::new();
+    for n in 0.. {
+        let scope = format!(
+            "f{n}:\n.LBL{n}_0:\nadd r9 r9 {}\nmov r1 {}\nmload r2 [r9,-3]\ngte r3 r1 r2\ncjmp r3 .LBL{n}_1\nmstore [r9,-2] r3\ncall f{}\n.LBL{n}_1:\nret\n",
+            n % 9 + 1,
+            n * 37,
+            n / 2
+        );
+        if text.len() + scope.len() + main.len() > size {
+            break;
+        }
+        text.push_str(&scope);
+    }
+    if text.is_empty() {
+        text = "f0:\nret\n".to_string();
+    }
+    text + main
+}
+
+/// As many labels and jumps as fit: each jump names the first label, the last that a search from the end finds.
+fn look_ups(size: usize) -> String {
+    let mut text = "main:\na:\n".to_string();
+    let labels = size / 6;
+    text.push_str(&"b:\n".repeat(labels));
+    text.push_str(&"jmp a\n".repeat((size - text.len()) / 6));
+    text
+}
+
+pub fn assembled() -> Vec<(&'static str, String)> {
+    vec![("200 bytes", ordinary(200)), ("4 KB", ordinary(4_096)), ("64 KB", ordinary(65_536)), ("64 KB of look-ups", look_ups(65_536))]
+}
+
+pub fn read() -> Vec<(&'static str, String)> {
+    let text = |source: String| oracle::assemble_bundle(oracle::bundled(&source)).bytecode;
+    vec![("4 KB", text(ordinary(4_096))), ("64 KB", text(ordinary(65_536)))]
+}

@@ -1,0 +1,550 @@
+//! One case on both sides: the Rust's answer, document 01's where it departs, and the port's.
+use crate::paper::{self, ORDER};
+use crate::port::{self, Assembly, Encoding, Label, Lent, Name, NumberedInstruction, NumberedPlace, Opened, Room, Step, Written};
+use oracle::{Answer, Assembled, Instruction, Place};
+use std::borrow::Cow;
+use std::collections::{BTreeMap, HashMap};
+use std::fmt::Debug;
+
+#[derive(Debug, Clone, PartialEq, Eq)]
+pub enum Case {
+    Source { source: Vec<u8>, prophets: Vec<u8> },
+    Bytecode(Vec<u8>),
+    Words(Vec<u64>),
+    Instruction(Instruction),
+    Numbered(NumberedInstruction),
+}
+
+/// What a case must give where a paper says it in so many words.
+#[derive(Debug, Clone)]
+pub enum Expected {
+    Nothing,
+    Words(Vec<u64>),
+    Rows(Vec<String>),
+    Hosts(Vec<u64>),
+    Text(String),
+    Refused(u64, u64),
+}
+
+pub struct Checker {
+    /// Only the Rust runs.
+    pub dry: bool,
+    /// How often each answer came: what was asked, and the refusal, 0 for acceptance.
+    pub answers: BTreeMap<(&'static str, u64), u64>,
+    /// Whether the Rust accepted the case.
+    pub accepted: bool,
+}
+
+type Outcome = Result<(), String>;
+
+fn same<T: PartialEq + Debug>(what: &str, expected: &T, got: &T) -> Outcome {
+    if expected == got {
+        return Ok(());
+    }
+    Err(format!("{what}\n    expected {expected:?}\n    the port {got:?}"))
+}
+
+/// The paper and the Rust, which the port has no part in.
+fn agreed<T: PartialEq + Debug>(what: &str, paper: &T, rust: &T) -> Outcome {
+    if paper == rust {
+        return Ok(());
+    }
+    Err(format!("{what}\n    the paper {paper:?}\n    the Rust {rust:?}"))
+}
+
+fn same_list<T: PartialEq + Debug>(what: &str, expected: &[T], got: &[T]) -> Outcome {
+    match (0..expected.len().max(got.len())).find(|n| expected.get(*n) != got.get(*n)) {
+        None => Ok(()),
+        Some(n) => same(&format!("{what}, entry {n} of {}", got.len()), &expected.get(n), &got.get(n)),
+    }
+}
+
+fn same_bytes(what: &str, expected: &[u8], got: &[u8]) -> Outcome {
+    if expected == got {
+        return Ok(());
+    }
+    Err(format!("{what}\n    expected \"{}\"\n    the port \"{}\"", expected.escape_ascii(), got.escape_ascii()))
+}
+
+/// -2^127, at which the Rust panics, made -2^128, which it refuses; document 01 refuses both alike.
+fn without_panic(text: &str) -> String {
+    text.replace("170141183460469231731687303715884105728", "340282366920938463463374607431768211456")
+}
+
+fn refusal<T>(answer: &Answer<T>) -> u64 {
+    match answer {
+        Answer::Accepted(_) => 0,
+        Answer::Refused(number, _) => *number,
+        Answer::Panicked => 999,
+    }
+}
+
+/// What is expected of a source: refusals 1 to 6, the label table, refusals 8 to 12, and else words and hosts.
+struct Told {
+    untabled: Option<(u64, u64)>,
+    entries: Vec<Label>,
+    refused: Option<(u64, u64)>,
+    words: Vec<u64>,
+    listed: usize,
+    hosts: Vec<u64>,
+    kept: u64,
+    bytecode: String,
+}
+
+impl Told {
+    fn refused(number: u64, detail: u64) -> Told {
+        Told {
+            untabled: Some((number, detail)),
+            entries: vec![],
+            refused: None,
+            words: vec![],
+            listed: 0,
+            hosts: vec![],
+            kept: 0,
+            bytecode: String::new(),
+        }
+    }
+
+    /// The answer and what is left in the lent buffers.
+    fn expected(&self, room: &Room) -> (Assembly, Lent) {
+        let mut left = Lent::new(room);
+        let refused = |(refusal, detail)| Assembly { refusal, detail, ..Assembly::default() };
+        if let Some(number) = self.untabled {
+            return (refused(number), left);
+        }
+        if room.entries() < self.entries.len() {
+            return (refused((7, 0)), left);
+        }
+        for (n, entry) in self.entries.iter().enumerate() {
+            left.kinds[n] = entry.kind;
+            left.mapped[n] = entry.mapped;
+            left.starts[n] = entry.start;
+            left.lengths[n] = entry.length;
+            left.addresses[n] = entry.address;
+            left.table[n] = *entry;
+        }
+        if let Some(number) = self.refused {
+            return (refused(number), left);
+        }
+        if room.words < self.words.len() || room.hosts < self.listed {
+            return (refused((13, 0)), left);
+        }
+        left.words[..self.words.len()].copy_from_slice(&self.words);
+        left.hosts[..self.hosts.len()].copy_from_slice(&self.hosts);
+        let labels = self.entries.len() as u64;
+        (Assembly { refusal: 0, detail: 0, labels, words: self.words.len() as u64, hosts: self.hosts.len() as u64, kept: self.kept }, left)
+    }
+
+    /// The rooms that are tried: more than enough, and of a small source also just enough, one short and nothing.
+    fn rooms(&self, source: &[u8]) -> Vec<Room> {
+        let (labels, words, hosts) = (self.entries.len(), self.words.len(), self.listed);
+        let ample = Room { columns: [labels + 2, labels + 3, labels + 1, labels + 4, labels + 2], words: words + 2, hosts: hosts + 2 };
+        let full = Room { columns: [labels; 5], words, hosts };
+        let mut rooms = vec![full, Room { columns: [0; 5], words: 0, hosts: 0 }];
+        if labels > 0 {
+            let mut short = ample;
+            short.columns[source.len() % 5] = labels - 1;
+            rooms.push(short);
+        }
+        if words > 0 {
+            rooms.push(Room { words: words - 1, ..ample });
+        }
+        if hosts > 0 {
+            rooms.push(Room { hosts: hosts - 1, ..ample });
+        }
+        if source.len() > 400 {
+            rooms = vec![rooms[source.len() % rooms.len()]];
+        }
+        rooms.insert(0, ample);
+        rooms
+    }
+}
+
+/// The name of an entry.
+fn name<'a>(source: &'a str, entry: &Label) -> &'a str {
+    &source[entry.start..entry.start + entry.length]
+}
+
+/// The address of each name of a kind: of equal ones the last mapped.
+fn held(source: &str, entries: &[Label], kind: u8) -> HashMap<String, u64> {
+    entries.iter().filter(|entry| entry.kind == kind && entry.mapped).map(|entry| (name(source, entry).to_string(), entry.address)).collect()
+}
+
+impl Checker {
+    pub fn new(dry: bool) -> Checker {
+        Checker { dry, answers: BTreeMap::new(), accepted: false }
+    }
+
+    fn tally(&mut self, what: &'static str, number: u64) {
+        self.accepted |= number == 0;
+        *self.answers.entry((what, number)).or_insert(0) += 1;
+    }
+
+    pub fn case(&mut self, case: &Case, expected: &Expected) -> Outcome {
+        self.accepted = false;
+        match case {
+            Case::Source { source, prophets } => self.source(source, prophets, expected),
+            Case::Bytecode(text) => self.bytecode(text, expected),
+            Case::Words(words) => self.words(words, &paper::bytecode(words)),
+            Case::Instruction(instruction) => self.instruction(instruction, expected),
+            Case::Numbered(instruction) => self.unnamed(*instruction),
+        }
+    }
+
+    // ---- sources
+
+    fn source(&mut self, source: &[u8], prophets: &[u8], expected: &Expected) -> Outcome {
+        let told = self.told(source, prophets)?;
+        match expected {
+            Expected::Words(words) => agreed("words", words, &told.words)?,
+            Expected::Hosts(hosts) => agreed("hosts", hosts, &told.hosts)?,
+            Expected::Refused(number, detail) => agreed("refusal", &Some((*number, *detail)), &told.untabled.or(told.refused))?,
+            Expected::Rows(_) | Expected::Text(_) | Expected::Nothing => {}
+        }
+        if !self.dry {
+            for room in told.rooms(source) {
+                self.room(source, prophets, &told, &room)?;
+            }
+            self.names(source, &told.entries)?;
+        }
+        if told.untabled.is_none() && told.refused.is_none() {
+            self.words(&told.words, &told.bytecode)?;
+            self.opened(told.bytecode.as_bytes(), expected)?;
+        }
+        Ok(())
+    }
+
+    fn told(&mut self, source: &[u8], prophets: &[u8]) -> Result<Told, String> {
+        if source.len() > paper::SOURCE_LIMIT {
+            return Ok(Told::refused(1, 0));
+        }
+        if let Some(at) = source.iter().position(|byte| *byte > 127) {
+            return Ok(Told::refused(2, at as u64));
+        }
+        let text = std::str::from_utf8(source).unwrap();
+        let list = paper::listed(prophets);
+        let names: Vec<Cow<str>> = list.iter().flatten().map(|name| String::from_utf8_lossy(name)).collect();
+        let names: Vec<&str> = names.iter().map(|name| &**name).collect();
+        let mut rust = oracle::assemble(text, &names);
+        if rust == Answer::Panicked {
+            self.tally("assemble", 999);
+            rust = oracle::assemble(&without_panic(text), &names);
+        }
+        self.tally("assemble", refusal(&rust));
+        if let Answer::Refused(3, detail) = rust {
+            return Ok(Told::refused(3, detail));
+        }
+        let (mains, entries) = paper::table(text);
+        if mains > 1 {
+            return Ok(Told::refused(6, 0));
+        }
+        if let Answer::Refused(number @ 4..=5, detail) = rust {
+            return Ok(Told::refused(number, detail));
+        }
+        let mut told = Told { untabled: None, refused: None, entries, listed: names.len(), ..Told::refused(0, 0) };
+        if list.is_none() {
+            told.refused = Some((8, 0));
+            return Ok(told);
+        }
+        match rust {
+            Answer::Panicked => Err("the Rust panics".to_string()),
+            Answer::Refused(number, detail) => {
+                told.refused = Some((number, detail));
+                Ok(told)
+            }
+            Answer::Accepted(assembled) => self.accepted(text, &names, told, assembled),
+        }
+    }
+
+    /// The words and hosts of a source that the Rust accepts. Its maps and the table that document 01 tells must agree.
+    fn accepted(&mut self, source: &str, names: &[&str], mut told: Told, rust: Assembled) -> Result<Told, String> {
+        let prophets = held(source, &told.entries, 2);
+        told.hosts = names.iter().map(|name| prophets.get(*name).copied().unwrap_or(u64::MAX)).collect();
+        let kept: HashMap<u64, usize> = told.hosts.iter().enumerate().map(|(n, host)| (*host, n)).collect();
+        told.kept = rust.kept.len() as u64;
+        told.words = rust.bytecode.split('\n').filter(|line| !line.is_empty()).map(|line| u64::from_str_radix(&line[2..], 16).unwrap()).collect();
+        agreed("addresses of call names", &held(source, &told.entries, 0), &rust.calls)?;
+        agreed("addresses of labels", &held(source, &told.entries, 1), &rust.labels)?;
+        agreed("prophets kept", &kept, &rust.kept)?;
+        told.bytecode = rust.bytecode;
+        Ok(told)
+    }
+
+    fn room(&mut self, source: &[u8], prophets: &[u8], told: &Told, room: &Room) -> Outcome {
+        let (answer, left) = told.expected(room);
+        let mut lent = Lent::new(room);
+        let got = port::assemble_parts(source, prophets, room, &mut lent);
+        let what = |part: &str| format!("{part}, {room:?}");
+        same(&what("assemble_parts"), &answer, &got)?;
+        same_list(&what("kinds"), &left.kinds, &lent.kinds)?;
+        same_list(&what("mapped"), &left.mapped, &lent.mapped)?;
+        same_list(&what("starts"), &left.starts, &lent.starts)?;
+        same_list(&what("lengths"), &left.lengths, &lent.lengths)?;
+        same_list(&what("addresses"), &left.addresses, &lent.addresses)?;
+        same_list(&what("words"), &left.words, &lent.words)?;
+        same_list(&what("hosts"), &left.hosts, &lent.hosts)?;
+        self.table(source, prophets, room, &answer, &left)
+    }
+
+    fn table(&mut self, source: &[u8], prophets: &[u8], room: &Room, answer: &Assembly, left: &Lent) -> Outcome {
+        let mut lent = Lent::new(room);
+        let got = port::assemble(source, prophets, room, &mut lent);
+        let what = |part: &str| format!("{part} of assemble, {room:?}");
+        same(&what("answer"), answer, &got)?;
+        same_list(&what("table"), &left.table, &lent.table)?;
+        same_list(&what("words"), &left.words, &lent.words)?;
+        same_list(&what("hosts"), &left.hosts, &lent.hosts)
+    }
+
+    /// The names of the entries, and of entries that reach to the source's end or past it.
+    fn names(&mut self, source: &[u8], entries: &[Label]) -> Outcome {
+        let end = source.len();
+        let entry = |start, length| Label { kind: 0, mapped: false, start, length, address: 0 };
+        for e in entries {
+            same("label_name", &Name { start: e.start, length: e.length }, &port::label_name(source, *e))?;
+        }
+        for (start, length) in [(0, end), (end, 0), (end / 2, end - end / 2)] {
+            same("label_name", &Name { start, length }, &port::label_name(source, entry(start, length)))?;
+        }
+        for (start, length) in
+            [(0, end + 1), (end, 1), (end + 1, 0), (end / 2, end - end / 2 + 1), (usize::MAX, usize::MAX), (1, usize::MAX), (usize::MAX, 1)]
+        {
+            same("label_name past the end", &Name::default(), &port::label_name(source, entry(start, length)))?;
+        }
+        Ok(())
+    }
+
+    // ---- words
+
+    fn words(&mut self, words: &[u64], text: &str) -> Outcome {
+        agreed("bytecode", &paper::bytecode(words), &text.to_string())?;
+        if self.dry {
+            return Ok(());
+        }
+        self.writes("write_bytecode", Ok(text.as_bytes()), &|room, lent| port::write_bytecode(words, room, lent))
+    }
+
+    /// Writing into a text that has more than enough room, just enough, one byte less, and none.
+    fn writes(&mut self, what: &str, text: Result<&[u8], (u64, u64)>, write: &dyn Fn(usize, &mut [u8]) -> Written) -> Outcome {
+        let length = text.map_or(64, |text| text.len());
+        let mut rooms = vec![length + 2, length, 0];
+        rooms.extend(length.checked_sub(1));
+        for room in rooms {
+            let mut left = port::lent_text(room);
+            let answer = match text {
+                Err((refusal, detail)) => Written { refusal, detail, written: 0 },
+                Ok(text) if room < text.len() => Written { refusal: 23, detail: 0, written: 0 },
+                Ok(text) => {
+                    left[..length].copy_from_slice(text);
+                    Written { refusal: 0, detail: 0, written: length as u64 }
+                }
+            };
+            let mut lent = port::lent_text(room);
+            let got = write(room, &mut lent);
+            same(&format!("{what}, room {room}"), &answer, &got)?;
+            same_bytes(&format!("text of {what}, room {room}"), &left, &lent)?;
+        }
+        Ok(())
+    }
+
+    // ---- instructions
+
+    fn instruction(&mut self, instruction: &Instruction, expected: &Expected) -> Outcome {
+        let number = |place: Place| match place {
+            Place::Number(n) | Place::Offset(_, n) | Place::Factor(_, n) => n,
+            _ => 0,
+        };
+        let large = [instruction.op0, instruction.op1, instruction.dst].into_iter().any(|place| number(place) >= ORDER);
+        let (encoded, row) =
+            if large { (Answer::Refused(21, 0), Answer::Refused(21, 0)) } else { (oracle::encode(instruction), oracle::row(instruction)) };
+        let row = if row == Answer::Panicked { Answer::Refused(24, 0) } else { row };
+        self.tally("encode", refusal(&encoded));
+        self.tally("row", refusal(&row));
+        let encoding = match &encoded {
+            Answer::Accepted(lines) => {
+                let word = |n: usize| lines.get(n).map_or(0, |line| u64::from_str_radix(&line[2..], 16).unwrap());
+                Encoding { refusal: 0, detail: 0, count: lines.len() as u64, first: word(0), second: word(1) }
+            }
+            Answer::Refused(refusal, detail) => Encoding { refusal: *refusal, detail: *detail, ..Encoding::default() },
+            Answer::Panicked => return Err("the Rust panics in encode".to_string()),
+        };
+        let text = match &row {
+            Answer::Accepted(text) => Ok(text.as_bytes()),
+            Answer::Refused(refusal, detail) => Err((*refusal, *detail)),
+            Answer::Panicked => unreachable!(),
+        };
+        match expected {
+            Expected::Text(paper) => agreed("row", paper, &String::from_utf8_lossy(text.unwrap_or(b"")).to_string())?,
+            Expected::Words(words) => agreed("words", words, &[encoding.first, encoding.second][..encoding.count as usize].to_vec())?,
+            Expected::Refused(number, detail) => agreed("refusal", &(*number, *detail), &text.err().unwrap_or((encoding.refusal, encoding.detail)))?,
+            _ => {}
+        }
+        if self.dry {
+            return Ok(());
+        }
+        let numbered = port::numbered(instruction);
+        for given in [numbered, overlaid(numbered)] {
+            same("encode", &encoding, &port::encode(given))?;
+            self.writes("listing_row", text, &|room, lent| port::listing_row(given, room, lent))?;
+        }
+        Ok(())
+    }
+
+    /// Numbers that name no instruction: the header's 255.
+    fn unnamed(&mut self, instruction: NumberedInstruction) -> Outcome {
+        if self.dry {
+            return Ok(());
+        }
+        same("encode", &Encoding { refusal: 255, ..Encoding::default() }, &port::encode(instruction))?;
+        self.writes("listing_row", Err((255, 0)), &|room, lent| port::listing_row(instruction, room, lent))
+    }
+
+    // ---- bytecode
+
+    fn bytecode(&mut self, text: &[u8], expected: &Expected) -> Outcome {
+        if text.len() > paper::BYTECODE_LIMIT {
+            return self.too_long(text);
+        }
+        self.opened(text, expected)?;
+        if self.dry {
+            return Ok(());
+        }
+        let told = told_text(text);
+        let starts = line_starts(text);
+        let lines = starts.len() - 1;
+        for line in (0..lines + 2).filter(|line| lines < 8 || line % (lines / 4) < 2) {
+            let answer = next(&told, line);
+            let step = |n: usize| (line + n) as u64;
+            same(&format!("next, line {line}"), &expected_step(&answer, line, step), &port::next(text, line))?;
+        }
+        for offset in (0..text.len() + 2).filter(|offset| text.len() < 12 || offset % (text.len() / 8) == 0) {
+            let rest = told.get(offset..).unwrap_or("");
+            let answer = next(rest, 0);
+            let ends = line_starts(rest.as_bytes());
+            let step = |n: usize| (offset + ends[n]) as u64;
+            same(&format!("next_at, offset {offset}"), &expected_step(&answer, offset, step), &port::next_at(text, offset))?;
+        }
+        let far = Step { refusal: 20, line: u64::MAX, ..Step::default() };
+        same("next, the last line that a number tells", &far, &port::next(text, usize::MAX))?;
+        same("next_at, the last offset that a number tells", &far, &port::next_at(text, usize::MAX))
+    }
+
+    fn too_long(&mut self, text: &[u8]) -> Outcome {
+        if self.dry {
+            return Ok(());
+        }
+        same("open", &Opened { refusal: 14, detail: 0 }, &port::open(text))?;
+        for at in [0, 1, text.len(), text.len() + 1] {
+            let step = Step { refusal: 14, line: at as u64, ..Step::default() };
+            same("next", &step, &port::next(text, at))?;
+            same("next_at", &step, &port::next_at(text, at))?;
+        }
+        Ok(())
+    }
+
+    /// Opening, and then the run of calls by lines and by offsets, where the text opens.
+    fn opened(&mut self, text: &[u8], expected: &Expected) -> Outcome {
+        let told = told_text(text);
+        let mut rust = oracle::decode(&told);
+        if rust == Answer::Panicked {
+            self.tally("open", 999);
+            rust = oracle::decode(&without_panic(&told));
+        }
+        self.tally("open", refusal(&rust));
+        let opened = match &rust {
+            Answer::Accepted(_) => Opened { refusal: 0, detail: 0 },
+            Answer::Refused(refusal, detail) => Opened { refusal: *refusal, detail: *detail },
+            Answer::Panicked => return Err("the Rust panics in decode".to_string()),
+        };
+        if let Expected::Refused(number, detail) = expected {
+            agreed("refusal", &(*number, *detail), &(opened.refusal, opened.detail))?;
+        }
+        if !self.dry {
+            same("open", &opened, &port::open(text))?;
+        }
+        let Answer::Accepted(list) = rust else { return Ok(()) };
+        if let Expected::Rows(rows) = expected {
+            let listed: Vec<String> = list.iter().map(|i| if let Answer::Accepted(row) = oracle::row(i) { row } else { "24".to_string() }).collect();
+            agreed("rows", rows, &listed)?;
+        }
+        for instruction in &list {
+            self.instruction(instruction, &Expected::Nothing)?;
+        }
+        if self.dry {
+            return Ok(());
+        }
+        self.run(text, &list)
+    }
+
+    fn run(&mut self, text: &[u8], list: &[Instruction]) -> Outcome {
+        let starts = line_starts(text);
+        let mut line = 0;
+        for (n, instruction) in list.iter().enumerate() {
+            let after = line + lines_of(instruction);
+            let step = |line: usize| Step { refusal: 0, detail: 0, line: line as u64, instruction: port::numbered(instruction) };
+            // A call by its line goes over all lines before it.
+            if list.len() < 200 || n % 97 == 0 {
+                same(&format!("next, call {n}"), &step(after), &port::next(text, line))?;
+            }
+            same(&format!("next_at, call {n}"), &step(starts[after]), &port::next_at(text, starts[line]))?;
+            line = after;
+        }
+        let none = |line: usize| Step { refusal: 20, line: line as u64, ..Step::default() };
+        same("next after the last", &none(line), &port::next(text, line))?;
+        same("next_at after the last", &none(starts[line]), &port::next_at(text, starts[line]))
+    }
+}
+
+/// Numbers in fields that a content does not have, which are not looked at.
+fn overlaid(instruction: NumberedInstruction) -> NumberedInstruction {
+    let place = |place: NumberedPlace| NumberedPlace {
+        content: place.content,
+        reg: if place.content < 2 { 200 } else { place.reg },
+        number: if [0, 2, 5].contains(&place.content) { u64::MAX } else { place.number },
+    };
+    NumberedInstruction { opcode: instruction.opcode, op0: place(instruction.op0), op1: place(instruction.op1), dst: place(instruction.dst) }
+}
+
+/// How many lines an instruction that was read has.
+fn lines_of(instruction: &Instruction) -> usize {
+    let memory = [9, 10].contains(&instruction.opcode);
+    if memory || matches!(instruction.op1, Place::Number(_)) {
+        2
+    } else {
+        1
+    }
+}
+
+/// A bytecode as the Rust gets it: a byte above 127 is no digit, and neither is what takes its place.
+fn told_text(text: &[u8]) -> Cow<'_, str> {
+    match std::str::from_utf8(text) {
+        Ok(told) if told.is_ascii() => Cow::Borrowed(told),
+        _ => Cow::Owned(text.iter().map(|byte| if *byte > 127 { '\x7f' } else { *byte as char }).collect()),
+    }
+}
+
+/// Where each line starts, and the text's end.
+fn line_starts(text: &[u8]) -> Vec<usize> {
+    let mut starts = vec![0];
+    starts.extend(text.iter().enumerate().filter(|(_, byte)| **byte == b'\n').map(|(n, _)| n + 1));
+    if *starts.last().unwrap() != text.len() {
+        starts.push(text.len());
+    }
+    starts
+}
+
+/// The Rust on the lines from one on.
+fn next(text: &str, line: usize) -> Answer<(Instruction, usize)> {
+    match oracle::next(text, line) {
+        Answer::Panicked => oracle::next(&without_panic(text), line),
+        answer => answer,
+    }
+}
+
+fn expected_step(answer: &Answer<(Instruction, usize)>, at: usize, after: impl Fn(usize) -> u64) -> Step {
+    match answer {
+        Answer::Accepted((instruction, lines)) => Step { refusal: 0, detail: 0, line: after(*lines), instruction: port::numbered(instruction) },
+        Answer::Refused(refusal, detail) => Step { refusal: *refusal, detail: *detail, line: at as u64, ..Step::default() },
+        Answer::Panicked => Step { refusal: 999, ..Step::default() },
+    }
+}

@@ -1,0 +1,160 @@
+//! Runs the port beside the Rust and compares every result: acceptance, refusals and details, label addresses, hosts and prophets kept, words and bytecode,
+//! instructions read, listing rows, encodings, and what is left in every lent buffer, past its end too. Where document 01 departs from the Rust, or says what
+//! the Rust does not tell, paper.rs takes the Rust's place.
+//!   compare [COUNT] [SEED]      default 20000 and 1
+//! First the cases of the papers, then the whole lists (of a small count every so-many-th of them, at most half of the count), then random cases.
+//! With DRY=1 only the Rust runs. With TRACE=1 each case is printed before it runs.
+//! Exit status: 0 no difference; 1 a difference, or a function of the port that was never called.
+mod check;
+mod generate;
+mod lists;
+mod named;
+mod paper;
+mod port;
+mod random;
+mod shrink;
+
+use check::{Case, Checker, Expected};
+use generate::{GENERATORS, LARGE_EVERY};
+use random::Random;
+use std::panic::{catch_unwind, AssertUnwindSafe};
+use std::sync::atomic::Ordering::Relaxed;
+
+/// Differences printed whole; more are only counted.
+const PRINTED: usize = 20;
+
+struct Run {
+    checker: Checker,
+    trace: bool,
+    cases: usize,
+    differences: usize,
+    counts: Vec<Count>,
+}
+
+/// The cases of one list or generator: how many, how many of them the Rust accepted, and how many the whole list has.
+#[derive(Clone, Copy)]
+struct Count {
+    name: &'static str,
+    cases: usize,
+    accepted: usize,
+    whole: usize,
+}
+
+/// The outcome of a case; a panic of the comparer itself is a difference.
+pub fn outcome(checker: &mut Checker, case: &Case, expected: &Expected) -> Result<(), String> {
+    catch_unwind(AssertUnwindSafe(|| checker.case(case, expected))).unwrap_or_else(|panic| {
+        let text = panic.downcast_ref::<String>().cloned().or(panic.downcast_ref::<&str>().map(|text| text.to_string()));
+        Err(format!("the comparer panicked: {}", text.unwrap_or_default()))
+    })
+}
+
+pub fn shown(case: &Case) -> String {
+    match case {
+        Case::Source { source, prophets } => format!("source \"{}\", prophets \"{}\"", source.escape_ascii(), prophets.escape_ascii()),
+        Case::Bytecode(text) => format!("bytecode \"{}\"", text.escape_ascii()),
+        Case::Words(words) => format!("words {words:#x?}"),
+        Case::Instruction(instruction) => format!("{instruction:?}"),
+        Case::Numbered(instruction) => format!("{instruction:?}"),
+    }
+}
+
+impl Run {
+    /// Counts of a list or a generator that begins.
+    fn begin(&mut self, name: &'static str, whole: usize) -> usize {
+        self.counts.push(Count { name, cases: 0, accepted: 0, whole });
+        self.counts.len() - 1
+    }
+
+    fn case(&mut self, count: usize, name: &str, case: &Case, expected: &Expected) {
+        if self.trace {
+            eprintln!("{name}: {}", shown(case));
+        }
+        self.cases += 1;
+        let outcome = outcome(&mut self.checker, case, expected);
+        self.counts[count].cases += 1;
+        self.counts[count].accepted += usize::from(self.checker.accepted);
+        let Err(difference) = outcome else { return };
+        self.differences += 1;
+        if self.differences > PRINTED {
+            return;
+        }
+        println!("DIFFERENCE in case {} ({name})", self.cases);
+        println!("  {}\n  {difference}", shown(case));
+        if let Some((smaller, difference)) = shrink::smallest(case, self.checker.dry) {
+            println!("  smallest: {}\n  {difference}", shown(&smaller));
+        }
+    }
+
+    fn named(&mut self) {
+        let named = named::all();
+        let count = self.begin("cases of the papers", named.len());
+        for one in &named {
+            self.case(count, one.name, &one.case, &one.expected);
+        }
+    }
+
+    /// At most so many cases of the whole lists together, of each its share.
+    fn lists(&mut self, most: usize) {
+        let total: usize = lists::LISTS.iter().map(|list| list.len).sum();
+        for list in &lists::LISTS {
+            let count = self.begin(list.name, list.len);
+            let cases = if most < total { list.len * most / total } else { list.len };
+            for n in 0..cases {
+                self.case(count, list.name, &(list.at)(n * list.len / cases), &Expected::Nothing);
+            }
+        }
+    }
+
+    fn random(&mut self, most: usize, seed: u64) {
+        let mut r = Random::new(seed);
+        let large = self.begin("large sources", 0);
+        let counts: Vec<usize> = GENERATORS.iter().map(|generator| self.begin(generator.name, 0)).collect();
+        let by_share: Vec<usize> = GENERATORS.iter().enumerate().flat_map(|(n, generator)| vec![n; generator.share]).collect();
+        while self.cases < most {
+            if r.below(LARGE_EVERY) == 0 {
+                self.case(large, "large sources", &generate::large(&mut r), &Expected::Nothing);
+                continue;
+            }
+            let which = by_share[r.below(by_share.len())];
+            self.case(counts[which], GENERATORS[which].name, &(GENERATORS[which].draw)(&mut r), &Expected::Nothing);
+        }
+    }
+
+    fn report(&self) {
+        println!("    cases  accepted");
+        for Count { name, cases, accepted, whole } in &self.counts {
+            let of = if whole > cases { format!(" (of {whole})") } else { String::new() };
+            println!("{cases:>9} {accepted:>9}  {name}{of}");
+        }
+        println!("The Rust's answers and how often each came (0: accepted; 999: a panic, counted beside document 01's refusal):");
+        for what in ["assemble", "open", "encode", "row"] {
+            let told = |((of, number), count): (&(&str, u64), &u64)| if *of == what { Some(format!("{number}: {count}")) } else { None };
+            let list: Vec<String> = self.checker.answers.iter().filter_map(told).collect();
+            println!("  {what}  {}", list.join(", "));
+        }
+        println!("Calls of the port:");
+        for (name, calls) in &port::CALLS {
+            println!("  {name}  {}", calls.load(Relaxed));
+        }
+        println!("{} cases, {} differences", self.cases, self.differences);
+    }
+
+    /// Whether a function of the port was never called, though its answers were to be compared.
+    fn left_out(&self) -> bool {
+        !self.checker.dry && port::CALLS.iter().any(|(_, calls)| calls.load(Relaxed) == 0)
+    }
+}
+
+fn main() {
+    let arguments: Vec<u64> = std::env::args().skip(1).map(|word| word.parse().expect("compare [COUNT] [SEED]")).collect();
+    let count = arguments.first().copied().unwrap_or(20_000) as usize;
+    let seed = arguments.get(1).copied().unwrap_or(1);
+    let set = |name: &str| std::env::var(name).is_ok_and(|value| value == "1");
+    oracle::silence();
+    let mut run = Run { checker: Checker::new(set("DRY")), trace: set("TRACE"), cases: 0, differences: 0, counts: vec![] };
+    run.named();
+    run.lists(count / 2);
+    run.random(count, seed);
+    run.report();
+    std::process::exit(if run.differences == 0 && !run.left_out() { 0 } else { 1 });
+}

@@ -1,0 +1,104 @@
+//! What document 01 says and the Rust does not tell: the label table of a source whose rows are all readable, the form of a prophet list, the
+//! limits, and how words are printed.
+use crate::port::Label;
+
+pub const SOURCE_LIMIT: usize = 65_536;
+pub const LIST_LIMIT: usize = 16_384;
+pub const BYTECODE_LIMIT: usize = 524_288;
+pub const ORDER: u64 = 0xFFFF_FFFF_0000_0001;
+
+/// The names of a list of document 01's form: "empty, or a line `label` and then one label a line, ... the final line feed optional".
+pub fn listed(prophets: &[u8]) -> Option<Vec<&[u8]>> {
+    if prophets.len() > LIST_LIMIT {
+        return None;
+    }
+    if prophets.is_empty() {
+        return Some(vec![]);
+    }
+    let lines = prophets.strip_suffix(b"\n").unwrap_or(prophets);
+    let mut lines = lines.split(|b| *b == b'\n');
+    if lines.next() != Some(b"label") {
+        return None;
+    }
+    Some(lines.collect())
+}
+
+/// The rows of a source, each with its place: the line without its comment and outer whitespace, where that is not empty.
+fn rows(source: &str) -> Vec<(usize, &str)> {
+    let place = |part: &str| part.as_ptr() as usize - source.as_ptr() as usize;
+    source.split('\n').map(|line| line.split(';').next().unwrap().trim()).filter(|row| !row.is_empty()).map(|row| (place(row), row)).collect()
+}
+
+/// The rows in sorted order, and how many main scopes there are.
+fn sorted(source: &str) -> (Vec<(usize, &str)>, usize) {
+    let mut scopes: Vec<Vec<(usize, &str)>> = vec![vec![]];
+    for row in rows(source) {
+        if kind(row.1) == Some(0) {
+            scopes.push(vec![]);
+        }
+        scopes.last_mut().unwrap().push(row);
+    }
+    let (mains, others): (Vec<_>, Vec<_>) = scopes.into_iter().partition(|scope| scope.first().is_some_and(|row| row.1 == "main:"));
+    let count = mains.len();
+    (mains.into_iter().chain(others).flatten().collect(), count)
+}
+
+/// The kind of a label row; of readable rows just these end in a colon.
+fn kind(row: &str) -> Option<u8> {
+    if !row.ends_with(':') {
+        return None;
+    }
+    Some(if row.starts_with(".LBL") {
+        1
+    } else if row.starts_with(".PROPHET") {
+        2
+    } else {
+        0
+    })
+}
+
+/// "Counted length: 1, plus 1 for op0 and 1 for op1 where it is a number, name, label or bracketed": whatever is no register and neither pc nor psp.
+fn counted_length(row: &str) -> u64 {
+    let pieces: Vec<&str> = row.split_whitespace().collect();
+    let dst_first = pieces.len() == 4 || ["mov", "not", "mload", "sigcheck"].contains(&pieces[0]);
+    let plain = |piece: &str| piece == "pc" || piece == "psp" || (piece.len() == 2 && piece.starts_with('r') && piece.as_bytes()[1].is_ascii_digit());
+    1 + pieces.iter().skip(if dst_first { 2 } else { 1 }).filter(|piece| !plain(piece)).count() as u64
+}
+
+/// How many main scopes a source has, and its label table, where every row is readable.
+pub fn table(source: &str) -> (usize, Vec<Label>) {
+    let (rows, mains) = sorted(source);
+    let last = rows.iter().rposition(|row| kind(row.1).is_none());
+    let mut entries = vec![];
+    let (mut address, mut host) = (0, 0);
+    for (n, (start, row)) in rows.iter().enumerate() {
+        match kind(row) {
+            None => {
+                host = address;
+                address += counted_length(row);
+            }
+            Some(kind) => {
+                let mapped = last.is_some_and(|last| n < last);
+                let marked = if kind == 2 { host } else { address };
+                entries.push(Label { kind, mapped, start: *start, length: row.len() - 1, address: if mapped { marked } else { 0 } });
+            }
+        }
+    }
+    (mains, entries)
+}
+
+/// Whether the word after a first word is a number: its bit 62, 22 or 21.
+pub fn two_lines(word: u64) -> bool {
+    word & (1 << 62 | 1 << 22 | 1 << 21) != 0
+}
+
+/// The bytecode of words.
+pub fn bytecode(words: &[u64]) -> String {
+    let mut lines = vec![];
+    let mut number = false;
+    for word in words {
+        lines.push(if number { format!("{word:#x}") } else { format!("0x{word:016x}") });
+        number = !number && two_lines(*word);
+    }
+    lines.join("\n")
+}
