@@ -165,7 +165,7 @@ fn show_reading(text: &[u8]) {
             io::write_all(STDOUT_FILENO, b"does not open\n");
         }
     }
-    let first = decoder_next::next_line(text, 0);
+    let first = decoder_runs::next_line(text, 0);
     let found = first.found;
     print_found(found);
     print_count(first.line, b"lines read");
@@ -173,8 +173,8 @@ fn show_reading(text: &[u8]) {
     let found = second.found;
     print_found(found);
     print_count(second.offset, b"bytes read");
-    print_found(decoder_next::nth(text, 3));
-    print_found(decoder_next::nth(text, 4));
+    print_found(decoder_runs::nth(text, 3));
+    print_found(decoder_runs::nth(text, 4));
 }
 
 // The same over the first n bytes of a text.

@@ -39,7 +39,7 @@ pub fn open<'a>(text: &'a [u8]) -> Opened<'a>
 pub fn next<'a>(bytecode: Bytecode<'a>) -> Step<'a>
     ensures { λ r. ⌜ stepForm r ≡ stepOf (bytecode .entry) ⌝ }
 {
-    let step = decoder_next::next_line(bytecode.text, bytecode.line);
+    let step = decoder_runs::next_line(bytecode.text, bytecode.line);
     Step {
         found: step.found,
         bytecode: Bytecode {

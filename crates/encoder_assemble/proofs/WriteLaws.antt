@@ -18,11 +18,12 @@ use Rattle.program.specs.Words.{firstWord, secondWord, inOrder, wordsOf, progra
 use Rattle.program.specs.declared.BinaryInstruction.{BinaryInstruction}
 use Rattle.program.specs.declared.SecondWord.{SecondWord}
 use Rattle.program.specs.declared.SecondWord.the-variants.{Number, Nothing}
-use Rattle.encoder_canonical.specs.Held.{heldProgram, ofCanonical, canonicalAt}
+use Rattle.encoder_canonical.specs.Held.{heldProgram}
 use Rattle.encoder_canonical.specs.declared.Canonical.{Canonical}
 use Rattle.encoder_canonical.specs.declared.Canonical.the-variants.{Is as Made, Unknown, Misused}
-use Rattle.encoder_canonical.specs.declared.CanonicalLine.the-variants.{Skip, Is as MadeLine, Unknown as UnknownLine, Misused as MisusedLine}
-use Rattle.encoder_canonical.specs.declared.CanonicalAt.{CanonicalAt}
+use Rattle.encoder_lines.specs.Lines.{ofCanonical, canonicalAt}
+use Rattle.encoder_lines.specs.declared.CanonicalLine.the-variants.{Skip, Is as MadeLine, Unknown as UnknownLine, Misused as MisusedLine}
+use Rattle.encoder_lines.specs.declared.CanonicalAt.{CanonicalAt}
 use Rattle.encoder_walks.proofs.LineLaws.{rowsFrom, rows-start, rows-end, line-skip, line-row, line-laws}
 use Rattle.encoder_walks.proofs.ProgramLaws.{accepted-first}
 use Rattle.encoder_assemble.specs.Written.{wordsIf, heldWords}

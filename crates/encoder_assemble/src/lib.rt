@@ -2,8 +2,8 @@
 use encoder::AssembleRefusal;
 use encoder::Assembly;
 use encoder::Totals;
-use encoder_canonical::CanonicalLine;
 use encoder_checks::Checked;
+use encoder_lines::CanonicalLine;
 use program::BinaryInstruction;
 use program::SecondWord;
 use relocate::Layout;
@@ -62,7 +62,7 @@ fn write_words(
     let mut at: usize = 0;
     let mut written: usize = 0;
     while at < source.len() {
-        let line = encoder_canonical::canonical_at(
+        let line = encoder_lines::canonical_at(
             source,
             kinds,
             mapped,

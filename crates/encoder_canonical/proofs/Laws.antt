@@ -18,28 +18,18 @@ use Rattle.asm.specs.declared.OlaAsmOperand.{OlaAsmOperand}
 use Rattle.asm.specs.declared.OlaAsmOperand.the-variants.{Empty, ImmediateOperand, RegisterOperand, RegisterWithOffset, RegisterWithFactoredRegOffset, SpecialReg, Label, Identifier}
 use Rattle.asm.proofs.OlaAsmOperand.{the-type as operandType}
 use Rattle.asm.specs.declared.OlaAsmInstruction.{OlaAsmInstruction}
-use Rattle.asm.specs.declared.AsmRow.{AsmRow}
-use Rattle.asm.specs.declared.AsmRow.the-variants.{Instruction, LabelCall, LabelJmp, LabelProphet}
-use Rattle.asm.proofs.AsmRow.{the-type as rowType}
-use Rattle.asm.specs.declared.LineRead.{LineRead}
-use Rattle.asm.specs.declared.LineRead.the-variants.{Blank, Row, Unreadable}
-use Rattle.asm.proofs.LineRead.{the-type as lineType}
-use Rattle.asm.specs.declared.RowAt.{RowAt}
 use Rattle.relocate.specs.Columns.{heldAddress}
-use Rattle.relocate.specs.Layout.{sortedRowAt}
 use Rattle.relocate.specs.declared.WordAddress.{WordAddress}
 use Rattle.relocate.specs.declared.LabelEntry.{LabelEntry}
 use Rattle.relocate.specs.declared.AddressFound.{AddressFound}
 use Rattle.relocate.specs.declared.AddressFound.the-variants.{At, Nothing}
 use Rattle.program.specs.Instructions.{made}
 use Rattle.program.specs.declared.BinaryInstruction.{BinaryInstruction}
-use Rattle.encoder_canonical.specs.Held.{heldNumber, heldPlain, heldGeneral, heldAnchored, heldMemory, heldBy, heldCanonical, ofCanonical, canonicalRow, canonicalLine, canonicalAt}
+use Rattle.encoder_canonical.specs.Held.{heldNumber, heldPlain, heldGeneral, heldAnchored, heldMemory, heldBy, heldCanonical}
 use Rattle.encoder_canonical.specs.declared.Resolved.{Resolved}
 use Rattle.encoder_canonical.specs.declared.Resolved.the-variants.{Is, Unknown}
 use Rattle.encoder_canonical.specs.declared.Canonical.{Canonical}
 use Rattle.encoder_canonical.specs.declared.Canonical.the-variants.{Is as Made, Unknown as NameUnknown, Misused}
-use Rattle.encoder_canonical.specs.declared.CanonicalLine.{CanonicalLine}
-use Rattle.encoder_canonical.specs.declared.CanonicalLine.the-variants.{Skip, Is as MadeLine}
 
 -- ---- one place
 
@@ -133,7 +123,7 @@ module _ (o : OlaOpcode) where
   no-register x (Label start n) k = refl
   no-register x (Identifier start n) k = refl
 
--- ---- a row and a line
+-- ---- a row by its places
 
 module _ (s : List ℕ) (es : List LabelEntry) where
   module _ (i : OlaAsmInstruction) (p : RowPlaces) (f : Canonical) (e : p ≡ rowPlaces (i .opcode)) where
@@ -160,32 +150,3 @@ module _ (s : List ℕ) (es : List LabelEntry) where
         go Op0Op1 k = refl
         go Op1 k = refl
         go Bare k = refl
-
-  -- an instruction row
-  pub told-row : (x : AsmRow) (i : OlaAsmInstruction) (f : Canonical) (l : CanonicalLine) → x ≡ Instruction i → f ≡ heldCanonical s es i → l ≡ ofCanonical f → l ≡ canonicalRow s es x
-  told-row x i f l e g h = rw (e, ← g) h
-
-  -- a label row
-  pub label-row : (x : AsmRow) → OneOf (1 ∷ 2 ∷ 3 ∷ []) (tagOf rowType x) → Skip ≡ canonicalRow s es x
-  label-row (Instruction i) k = absurd (miss (1 ∷ 2 ∷ 3 ∷ []) 0 tt k)
-  label-row (LabelCall start n) k = refl
-  label-row (LabelJmp start n) k = refl
-  label-row (LabelProphet start n) k = refl
-
-  -- a line that is a row
-  pub told-line : (x : LineRead) (r : AsmRow) (l : CanonicalLine) → x ≡ Row r → l ≡ canonicalRow s es r → l ≡ canonicalLine s es x
-  told-line x r l e g = rw e g
-
-  -- a line that is none
-  pub no-row : (x : LineRead) → OneOf (0 ∷ 2 ∷ []) (tagOf lineType x) → Skip ≡ canonicalLine s es x
-  no-row Blank k = refl
-  no-row (Row r) k = absurd (miss (0 ∷ 2 ∷ []) 1 tt k)
-  no-row Unreadable k = refl
-
-  -- a line read, and where the next one starts
-  pub told-at : (start end v : ℕ) (r : RowAt) (l : CanonicalLine) → r ≡ sortedRowAt s start end v → l ≡ canonicalLine s es (r .read) → record { found = l; next = r .next } ≡ canonicalAt s es start end v
-  told-at start end v r l e g = rw (← e, g)
-
--- an instruction found, as the answer for its line
-pub made-line : (f : Canonical) (b : BinaryInstruction) → f ≡ Made b → MadeLine b ≡ ofCanonical f
-made-line f b e = rw e

@@ -12,13 +12,8 @@ use Rattle.asm.specs.Parts.{nameAt}
 use Rattle.asm.specs.declared.OlaAsmOperand.{OlaAsmOperand}
 use Rattle.asm.specs.declared.OlaAsmOperand.the-variants.{Empty, ImmediateOperand, RegisterOperand, RegisterWithOffset, RegisterWithFactoredRegOffset, SpecialReg, Label, Identifier}
 use Rattle.asm.specs.declared.OlaAsmInstruction.{OlaAsmInstruction}
-use Rattle.asm.specs.declared.AsmRow.{AsmRow}
-use Rattle.asm.specs.declared.AsmRow.the-variants.{Instruction, LabelCall, LabelJmp, LabelProphet}
-use Rattle.asm.specs.declared.LineRead.{LineRead}
-use Rattle.asm.specs.declared.LineRead.the-variants.{Blank, Row, Unreadable}
 use Rattle.relocate.specs.Labels.{callKind, jmpKind}
 use Rattle.relocate.specs.Columns.{heldAddress}
-use Rattle.relocate.specs.Layout.{sortedRowAt}
 use Rattle.relocate.specs.declared.LabelEntry.{LabelEntry}
 use Rattle.relocate.specs.declared.AddressFound.{AddressFound}
 use Rattle.relocate.specs.declared.AddressFound.the-variants.{At, Nothing}
@@ -28,9 +23,6 @@ use Rattle.encoder_canonical.specs.declared.Resolved.{Resolved}
 use Rattle.encoder_canonical.specs.declared.Resolved.the-variants.{Is, Unknown}
 use Rattle.encoder_canonical.specs.declared.Canonical.{Canonical}
 use Rattle.encoder_canonical.specs.declared.Canonical.the-variants.{Is as Made, Unknown as NameUnknown, Misused}
-use Rattle.encoder_canonical.specs.declared.CanonicalLine.{CanonicalLine}
-use Rattle.encoder_canonical.specs.declared.CanonicalLine.the-variants.{Skip, Is as MadeLine, Unknown as UnknownLine, Misused as MisusedLine}
-use Rattle.encoder_canonical.specs.declared.CanonicalAt.{CanonicalAt}
 
 -- ---- one place
 
@@ -111,26 +103,3 @@ canonicalNumbered k Misused = refused 11 k
 unfoldable pub heldProgram : List ℕ → List LabelEntry → ℕ → List OlaAsmInstruction → Answer (List BinaryInstruction)
 heldProgram s es k [] = ok []
 heldProgram s es k (i ∷ is) = canonicalNumbered k (heldCanonical s es i) >>= λ b. heldProgram s es (suc k) is >>= λ bs. ok (b ∷ bs)
-
--- ---- one line of the sorted source
-
-abbrev pub ofCanonical : Canonical → CanonicalLine
-ofCanonical (Made b) = MadeLine b
-ofCanonical NameUnknown = UnknownLine
-ofCanonical Misused = MisusedLine
-
-abbrev pub canonicalRow : List ℕ → List LabelEntry → AsmRow → CanonicalLine
-canonicalRow s es (Instruction i) = ofCanonical (heldCanonical s es i)
-canonicalRow s es (LabelCall start n) = Skip
-canonicalRow s es (LabelJmp start n) = Skip
-canonicalRow s es (LabelProphet start n) = Skip
-
--- the canonical instruction of a line that is an instruction row
-abbrev pub canonicalLine : List ℕ → List LabelEntry → LineRead → CanonicalLine
-canonicalLine s es Blank = Skip
-canonicalLine s es (Row r) = canonicalRow s es r
-canonicalLine s es Unreadable = Skip
-
--- the line at place v of the sorted source, and the place of the line after it
-abbrev pub canonicalAt : List ℕ → List LabelEntry → ℕ → ℕ → ℕ → CanonicalAt
-canonicalAt s es start end v = let r = sortedRowAt s start end v in record { found = canonicalLine s es (r .read); next = r .next }

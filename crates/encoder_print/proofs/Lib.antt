@@ -1,3 +1,1 @@
-pub mod LeftLaws
-pub mod Laws
 pub mod SourceLaws

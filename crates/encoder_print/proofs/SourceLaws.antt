@@ -18,9 +18,10 @@ use Rattle.encoder.specs.declared.AssembleRefusal.{AssembleRefusal}
 use Rattle.encoder.specs.declared.Totals.{Totals}
 use Rattle.encoder.specs.declared.Assembly.{Assembly}
 use Rattle.encoder.specs.declared.Assembly.the-variants.{Refused, Assembled}
-use Rattle.encoder_print.specs.Printed.{printedNumbered, printedCount, printedInto, reportedWords, wordCount, reportedAssembly}
-use Rattle.encoder_print.specs.declared.Printed.{Printed}
-use Rattle.encoder_print.specs.declared.Printed.the-variants.{Is}
+use Rattle.encoder_report.specs.Printed.{printedNumbered, printedCount, printedInto, reportedWords}
+use Rattle.encoder_report.specs.declared.Printed.{Printed}
+use Rattle.encoder_report.specs.declared.Printed.the-variants.{Is}
+use Rattle.encoder_print.specs.Reported.{wordCount, reportedAssembly}
 
 -- ---- print_assembly: d is the text
 module _ (found : Assembly) (words d : List ℕ) where

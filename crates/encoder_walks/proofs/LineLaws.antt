@@ -13,12 +13,13 @@ use Rattle.asm.specs.declared.LineRead.the-variants.{Blank, Row, Unreadable}
 use Rattle.relocate.specs.Layout.{sortedRowAt, sortedFrom, sortedInstructions}
 use Rattle.relocate.specs.declared.LabelEntry.{LabelEntry}
 use Rattle.relocate.proofs.WalkLaws.{sorted-end, sorted-blank, sorted-row, sorted-unreadable, sorted-next-past, sorted-next-within, sorted-room}
-use Rattle.encoder_canonical.specs.Held.{heldCanonical, ofCanonical, canonicalLine, canonicalAt}
+use Rattle.encoder_canonical.specs.Held.{heldCanonical}
 use Rattle.encoder_canonical.specs.declared.Canonical.{Canonical}
 use Rattle.encoder_canonical.specs.declared.Canonical.the-variants.{Is as Made, Unknown as NameUnknown, Misused}
-use Rattle.encoder_canonical.specs.declared.CanonicalLine.{CanonicalLine}
-use Rattle.encoder_canonical.specs.declared.CanonicalLine.the-variants.{Skip, Is as MadeLine, Unknown as UnknownLine, Misused as MisusedLine}
-use Rattle.encoder_canonical.specs.declared.CanonicalAt.{CanonicalAt}
+use Rattle.encoder_lines.specs.Lines.{ofCanonical, canonicalLine, canonicalAt}
+use Rattle.encoder_lines.specs.declared.CanonicalLine.{CanonicalLine}
+use Rattle.encoder_lines.specs.declared.CanonicalLine.the-variants.{Skip, Is as MadeLine, Unknown as UnknownLine, Misused as MisusedLine}
+use Rattle.encoder_lines.specs.declared.CanonicalAt.{CanonicalAt}
 
 -- the instruction rows of the sorted source from place v on
 abbrev pub rowsFrom : List ℕ → ℕ → ℕ → ℕ → List OlaAsmInstruction

@@ -23,11 +23,12 @@ use Rattle.relocate.specs.declared.LabelEntry.{LabelEntry}
 use Rattle.program.specs.Instructions.{isNumber}
 use Rattle.program.specs.declared.BinaryInstruction.{BinaryInstruction}
 use Rattle.encoder.specs.declared.AssembleRefusal.the-variants.{NameUnknown, MemoryOperand}
-use Rattle.encoder_canonical.specs.Held.{heldCanonical, canonicalNumbered, heldProgram, ofCanonical, canonicalAt}
+use Rattle.encoder_canonical.specs.Held.{heldCanonical, canonicalNumbered, heldProgram}
 use Rattle.encoder_canonical.specs.declared.Canonical.{Canonical}
 use Rattle.encoder_canonical.specs.declared.Canonical.the-variants.{Is as Made, Unknown, Misused}
-use Rattle.encoder_canonical.specs.declared.CanonicalLine.the-variants.{Skip, Is as MadeLine, Unknown as UnknownLine, Misused as MisusedLine}
-use Rattle.encoder_canonical.specs.declared.CanonicalAt.{CanonicalAt}
+use Rattle.encoder_lines.specs.Lines.{ofCanonical, canonicalAt}
+use Rattle.encoder_lines.specs.declared.CanonicalLine.the-variants.{Skip, Is as MadeLine, Unknown as UnknownLine, Misused as MisusedLine}
+use Rattle.encoder_lines.specs.declared.CanonicalAt.{CanonicalAt}
 use Rattle.encoder_walks.specs.Walks.{resolutionNumbered, heldCount, isNumberAside, isMisplaced, heldMisplaced}
 use Rattle.encoder_walks.specs.declared.Resolution.the-variants.{Is, Refused}
 use Rattle.encoder_walks.proofs.LineLaws.{rowsFrom, rows-start, rows-crossed, rows-outside, rows-end, line-skip, line-row, line-laws}

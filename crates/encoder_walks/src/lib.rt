@@ -2,7 +2,7 @@
 use asm::PlaceFound;
 use asm::RowCount;
 use encoder::AssembleRefusal;
-use encoder_canonical::CanonicalLine;
+use encoder_lines::CanonicalLine;
 use program::BinaryInstruction;
 use vm_operands::OlaOperand;
 ghost use mathlib.Core.Path.{_≡_};
@@ -35,7 +35,7 @@ fn resolve_within(
     let mut at: usize = 0;
     let mut count: usize = 0;
     while at < source.len() {
-        let line = encoder_canonical::canonical_at(
+        let line = encoder_lines::canonical_at(
             source,
             kinds,
             mapped,
@@ -125,7 +125,7 @@ fn misplaced_within(
     let mut at: usize = 0;
     let mut index: usize = 0;
     while at < source.len() {
-        let line = encoder_canonical::canonical_at(
+        let line = encoder_lines::canonical_at(
             source,
             kinds,
             mapped,

@@ -1,21 +1,17 @@
--- The library's answers as numbers: refusal 0 means accepted, and "On refusal, fields other than refusal and detail are 0, but a step's `line`
--- stays where it was".
+-- The library's answers as numbers, all but those of opening and next: refusal 0 means accepted, and "On refusal, fields other than refusal and detail
+-- are 0".
 use Prim.Native.Nat.{ℕ, _+_}
 use mathlib.Core.List.{List}
 use mathlib.Core.Bool.{cond}
 use lib.Dec.{leb}
 use lib.ListN.{length}
 use Rattle.text.specs.Answer.{Answer, ok, refused}
-use Rattle.program.specs.declared.BinaryInstruction.{BinaryInstruction}
 use Rattle.program.specs.declared.InstructionWords.{InstructionWords}
 use Rattle.program.specs.declared.SecondWord.{SecondWord}
 use Rattle.program.specs.declared.SecondWord.the-variants.{Number, Nothing}
 use Rattle.encoder.specs.declared.Totals.{Totals}
-use Rattle.ola_places.specs.Places.{instructionOut, noInstruction}
 use Rattle.ola_answers.specs.declared.OlaAssembly.{OlaAssembly}
 use Rattle.ola_answers.specs.declared.OlaWritten.{OlaWritten}
-use Rattle.ola_answers.specs.declared.OlaOpened.{OlaOpened}
-use Rattle.ola_answers.specs.declared.OlaStep.{OlaStep}
 use Rattle.ola_answers.specs.declared.OlaEncoding.{OlaEncoding}
 use Rattle.ola_answers.specs.declared.OlaName.{OlaName}
 
@@ -26,18 +22,6 @@ assemblyOf (refused n d) = record { refusal = n; detail = d; labels = 0; words =
 abbrev pub writtenOf : Answer ℕ → OlaWritten
 writtenOf (ok n) = record { refusal = 0; detail = 0; written = n }
 writtenOf (refused n d) = record { refusal = n; detail = d; written = 0 }
-
-abbrev pub openedOf : Answer (Unit {0}) → OlaOpened
-openedOf (ok u) = record { refusal = 0; detail = 0 }
-openedOf (refused n d) = record { refusal = n; detail = d }
-
-abbrev pub stepRefused : ℕ → ℕ → ℕ → OlaStep
-stepRefused n d line = record { refusal = n; detail = d; line = line; instruction = noInstruction }
-
--- an answer, and the line reached
-abbrev pub stepOf : Answer BinaryInstruction → ℕ → OlaStep
-stepOf (ok i) line = record { refusal = 0; detail = 0; line = line; instruction = instructionOut i }
-stepOf (refused n d) line = stepRefused n d line
 
 abbrev pub secondOut : ℕ → SecondWord → OlaEncoding
 secondOut w (Number v) = record { refusal = 0; detail = 0; count = 2; first = w; second = v }

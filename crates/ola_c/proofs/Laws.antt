@@ -28,13 +28,14 @@ use Rattle.ola_places.specs.Places.{instructionIn}
 use Rattle.ola_places.specs.declared.OlaInstruction.{OlaInstruction}
 use Rattle.ola_places.specs.declared.InstructionNamed.{InstructionNamed}
 use Rattle.ola_places.specs.declared.InstructionNamed.the-variants.{Is, Nothing}
-use Rattle.ola_answers.specs.Answers.{assemblyOf, writtenOf, openedOf, stepOf, encodingOf, namePart}
+use Rattle.ola_answers.specs.Answers.{assemblyOf, writtenOf, encodingOf, namePart}
 use Rattle.ola_answers.specs.declared.OlaAssembly.{OlaAssembly}
 use Rattle.ola_answers.specs.declared.OlaWritten.{OlaWritten}
-use Rattle.ola_answers.specs.declared.OlaOpened.{OlaOpened}
-use Rattle.ola_answers.specs.declared.OlaStep.{OlaStep}
 use Rattle.ola_answers.specs.declared.OlaEncoding.{OlaEncoding}
 use Rattle.ola_answers.specs.declared.OlaName.{OlaName}
+use Rattle.ola_steps.specs.Steps.{openedOf, stepOf}
+use Rattle.ola_steps.specs.declared.OlaOpened.{OlaOpened}
+use Rattle.ola_steps.specs.declared.OlaStep.{OlaStep}
 use Rattle.ola_c.specs.Exports.{lineStep, offsetStep, encodingNamed, listed, listedText}
 
 pub assembly-answers : (a : Assembly) (x : Answer Totals) (r : OlaAssembly) → numbered a ≡ x → r ≡ assemblyOf (numbered a) → r ≡ assemblyOf x

@@ -11,10 +11,11 @@ use Rattle.program_bytecode.specs.Written.{countOf}
 use Rattle.decoder.specs.Steps.{Stepped, SteppedAt}
 use Rattle.ola_places.specs.declared.InstructionNamed.{InstructionNamed}
 use Rattle.ola_places.specs.declared.InstructionNamed.the-variants.{Is, Nothing}
-use Rattle.ola_answers.specs.Answers.{writtenOf, stepOf, encodingOf}
+use Rattle.ola_answers.specs.Answers.{writtenOf, encodingOf}
 use Rattle.ola_answers.specs.declared.OlaWritten.{OlaWritten}
-use Rattle.ola_answers.specs.declared.OlaStep.{OlaStep}
 use Rattle.ola_answers.specs.declared.OlaEncoding.{OlaEncoding}
+use Rattle.ola_steps.specs.Steps.{stepOf}
+use Rattle.ola_steps.specs.declared.OlaStep.{OlaStep}
 
 -- a call of next by its line
 abbrev pub lineStep : Stepped → OlaStep

@@ -2,11 +2,11 @@
 use ola_answers::OlaAssembly;
 use ola_answers::OlaEncoding;
 use ola_answers::OlaName;
-use ola_answers::OlaOpened;
-use ola_answers::OlaStep;
 use ola_answers::OlaWritten;
 use ola_places::InstructionNamed;
 use ola_places::OlaInstruction;
+use ola_steps::OlaOpened;
+use ola_steps::OlaStep;
 use relocate::LabelEntry;
 ghost use mathlib.Core.Path.{_≡_};
 ghost use lib.ListN.{length};
@@ -19,7 +19,8 @@ ghost use Rattle.encoder.specs.Assemble.{assembled, assembledTotals, wordsLeft,
 ghost use Rattle.decoder.specs.Open.{opened};
 ghost use Rattle.decoder.specs.Steps.{acceptedOf, stepped, steppedAt};
 ghost use Rattle.ola_places.specs.Places.{instructionIn};
-ghost use Rattle.ola_answers.specs.Answers.{assemblyOf, writtenOf, openedOf, namePart};
+ghost use Rattle.ola_answers.specs.Answers.{assemblyOf, writtenOf, namePart};
+ghost use Rattle.ola_steps.specs.Steps.{openedOf};
 ghost use Rattle.ola_c.specs.Exports.{lineStep, offsetStep, encodingNamed, listed, listedText};
 
 // Assembles a source with a prophet list over parallel arrays.
@@ -113,7 +114,7 @@ pub extern "C" fn ola_write_bytecode(words: &[u64], text: &mut [u8]) -> OlaWritt
 pub extern "C" fn ola_open(text: &[u8]) -> OlaOpened
     ensures { λ r. ⌜ r ≡ openedOf (acceptedOf (opened (now (text .entry)))) ⌝ }
 {
-    ola_answers::opened_out(decoder_open::open_text(text))
+    ola_steps::opened_out(decoder_open::open_text(text))
 }
 
 // The instruction from a line on, and the line reached.
@@ -121,9 +122,9 @@ pub extern "C" fn ola_open(text: &[u8]) -> OlaOpened
 pub extern "C" fn ola_next(text: &[u8], line: usize) -> OlaStep
     ensures { λ r. ⌜ r ≡ lineStep (stepped (now (text .entry)) line) ⌝ }
 {
-    let step = decoder_next::next_line(text, line);
+    let step = decoder_runs::next_line(text, line);
     let found = step.found;
-    ola_answers::step_out(found, step.line)
+    ola_steps::step_out(found, step.line)
 }
 
 // The instruction from an offset on, and the offset reached.
@@ -133,7 +134,7 @@ pub extern "C" fn ola_next_at(text: &[u8], offset: usize) -> OlaStep
 {
     let step = decoder_next::next_at(text, offset);
     let found = step.found;
-    ola_answers::step_out(found, step.offset)
+    ola_steps::step_out(found, step.offset)
 }
 
 // The words of one instruction.

@@ -1,5 +1,5 @@
 // The printing program: reads a source on standard input, and prints the position and the text of each of its words, or why it is refused.
-use encoder_print::Printed;
+use encoder_report::Printed;
 use libc::STDIN_FILENO;
 use libc::STDOUT_FILENO;
 

@@ -1,5 +1,5 @@
 // What the printing program prints for each file that its arguments name, behind the file's name.
-use encoder_print::Printed;
+use encoder_report::Printed;
 use libc::STDOUT_FILENO;
 
 // Prints what is printed for the source that a descriptor reads.

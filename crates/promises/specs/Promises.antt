@@ -66,7 +66,7 @@ module _ (s t prophets others : List ℕ) (room space : Room) (a b : Accepted) (
   same-bytecode = bytecode-same s t prophets others room space a b h k
 
 -- Any text, from its first byte: the run by offsets gives what the run by lines gives.
--- Of decoder_next::next_at on the one side, decoder_next::next_line and decoder_bytecode::next on the other.
+-- Of decoder_next::next_at on the one side, decoder_runs::next_line and decoder_bytecode::next on the other.
 -- A whole run may be made by offsets, which takes time linear in the text.
 pub run-by-offsets : (k : ℕ) (text : List ℕ) → runAt k text 0 ≡ run k text 0
 run-by-offsets k text = offsets-run k text
@@ -83,7 +83,7 @@ module _ (s prophets : List ℕ) (room : Room) (a : Accepted) (h : assembled s p
 
   -- Of k calls of next from the opened bytecode, each on the reader that the last returned, the first answers are the instructions of the
   -- canonical program in order, with mov's empty source place read as psp, and every call left over is refused with 20.
-  -- Of decoder_bytecode::next and decoder_next::next_line, called k times.
+  -- Of decoder_bytecode::next and decoder_runs::next_line, called k times.
   -- What a reviewer reads back from published words is the program, whole and in order, and nothing else.
   pub run-reads : (k : ℕ) → run k (bytecodeOf (a .words)) 0 ≡ map ok (take k (map asRead (a .program))) ++ replicate (k - length (a .program)) (refused 20 0)
   run-reads k =
@@ -91,7 +91,7 @@ module _ (s prophets : List ℕ) (room : Room) (a : Accepted) (h : assembled s p
       ∙ runs (a .program) (accepted-readable s prophets room a h) (accepted-short s prophets room a h) k
 
   -- The k-th of these calls, from 0, answers the k-th instruction, and 20 where there is none.
-  -- Of decoder_next::nth, which makes the calls.
+  -- Of decoder_runs::nth, which makes the calls.
   -- Asking for one instruction by its number is as good as reading up to it.
   pub nth-reads : (k : ℕ) → nthCall (bytecodeOf (a .words)) k ≡ getD (map ok (map asRead (a .program))) k (refused 20 0)
   nth-reads k =

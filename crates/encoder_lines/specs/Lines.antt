@@ -1,0 +1,37 @@
+-- The canonical instruction of a line of the sorted source, its names looked up in the label table.
+use Prim.Native.Nat.{ℕ}
+use mathlib.Core.List.{List}
+use Rattle.asm.specs.declared.AsmRow.{AsmRow}
+use Rattle.asm.specs.declared.AsmRow.the-variants.{Instruction, LabelCall, LabelJmp, LabelProphet}
+use Rattle.asm.specs.declared.LineRead.{LineRead}
+use Rattle.asm.specs.declared.LineRead.the-variants.{Blank, Row, Unreadable}
+use Rattle.relocate.specs.Layout.{sortedRowAt}
+use Rattle.relocate.specs.declared.LabelEntry.{LabelEntry}
+use Rattle.encoder_canonical.specs.Held.{heldCanonical}
+use Rattle.encoder_canonical.specs.declared.Canonical.{Canonical}
+use Rattle.encoder_canonical.specs.declared.Canonical.the-variants.{Is as Made, Unknown as NameUnknown, Misused}
+use Rattle.encoder_lines.specs.declared.CanonicalLine.{CanonicalLine}
+use Rattle.encoder_lines.specs.declared.CanonicalLine.the-variants.{Skip, Is as MadeLine, Unknown as UnknownLine, Misused as MisusedLine}
+use Rattle.encoder_lines.specs.declared.CanonicalAt.{CanonicalAt}
+
+-- what an instruction row becomes, as the answer for its line
+abbrev pub ofCanonical : Canonical → CanonicalLine
+ofCanonical (Made b) = MadeLine b
+ofCanonical NameUnknown = UnknownLine
+ofCanonical Misused = MisusedLine
+
+abbrev pub canonicalRow : List ℕ → List LabelEntry → AsmRow → CanonicalLine
+canonicalRow s es (Instruction i) = ofCanonical (heldCanonical s es i)
+canonicalRow s es (LabelCall start n) = Skip
+canonicalRow s es (LabelJmp start n) = Skip
+canonicalRow s es (LabelProphet start n) = Skip
+
+-- the canonical instruction of a line that is an instruction row
+abbrev pub canonicalLine : List ℕ → List LabelEntry → LineRead → CanonicalLine
+canonicalLine s es Blank = Skip
+canonicalLine s es (Row r) = canonicalRow s es r
+canonicalLine s es Unreadable = Skip
+
+-- the line at place v of the sorted source, and the place of the line after it
+abbrev pub canonicalAt : List ℕ → List LabelEntry → ℕ → ℕ → ℕ → CanonicalAt
+canonicalAt s es start end v = let r = sortedRowAt s start end v in record { found = canonicalLine s es (r .read); next = r .next }
