@@ -38,6 +38,9 @@ use Rattle.asm.specs.declared.LineRead.the-variants.{Blank, Row, Unreadable as 
 use Rattle.asm_instructions.specs.Listed.{listed, atMostThree}
 use Rattle.asm_instructions.specs.declared.RowOperands.{RowOperands}
 use Rattle.asm_instructions.specs.declared.RowOperands.the-variants.{Zero, One, Two, Three, Other}
+use Rattle.asm_instructions.proofs.RowOperands.{the-type as operandsType}
+use types.Run.{OneOf, miss}
+use denote.Enum.Declared.{tagOf}
 use Rattle.asm_rows.specs.Found.{pieceAt, ahead, operandsFrom, rowWith}
 use Rattle.asm.proofs.PieceLaws.{part-taken}
 use Rattle.asm_rows.proofs.OperandLaws.{cut, piece-ends, end-fits, no-piece, first-piece}
@@ -78,20 +81,17 @@ module _ (start : ℕ) (w : List ℕ) (os : RowOperands) (r : RowRead) where
   pub with-zero : os ≡ Zero → r ≡ rowOf (record { start = start; text = w } ∷ []) → r ≡ rowWith (record { start = start; text = w }) os
   with-zero e h = rw e h
 
-  pub with-other : os ≡ Other → r ≡ arrangedIf (operationOf w) (listed Other) → r ≡ rowWith (record { start = start; text = w }) os
-  with-other e h = rw e h
+  pub with-some : OneOf (1 ∷ 2 ∷ 3 ∷ 4 ∷ []) (tagOf operandsType os) → r ≡ arrangedIf (operationOf w) (listed os) → r ≡ rowWith (record { start = start; text = w }) os
+  with-some k h = go os k h
+    where
+      go : (x : RowOperands) → OneOf (1 ∷ 2 ∷ 3 ∷ 4 ∷ []) (tagOf operandsType x) → r ≡ arrangedIf (operationOf w) (listed x) → r ≡ rowWith (record { start = start; text = w }) x
+      go Zero j g = absurd (miss (1 ∷ 2 ∷ 3 ∷ 4 ∷ []) 0 tt j)
+      go (One a) j g = g
+      go (Two a b) j g = g
+      go (Three a b c) j g = g
+      go Other j g = g
 
-  module _ (a b c : OlaAsmOperand) where
-    pub with-one : os ≡ One a → r ≡ arrangedIf (operationOf w) (listed (One a)) → r ≡ rowWith (record { start = start; text = w }) os
-    with-one e h = rw e h
-
-    pub with-two : os ≡ Two a b → r ≡ arrangedIf (operationOf w) (listed (Two a b)) → r ≡ rowWith (record { start = start; text = w }) os
-    with-two e h = rw e h
-
-    pub with-three : os ≡ Three a b c → r ≡ arrangedIf (operationOf w) (listed (Three a b c)) → r ≡ rowWith (record { start = start; text = w }) os
-    with-three e h = rw e h
-
-pub ruleset with-laws = (with-zero, with-one, with-two, with-three, with-other, needs)
+pub ruleset with-laws = (with-zero, with-some, needs)
 
 -- a row has at most three operands
 four : (o : OlaOpcode) (p : RowPlaces) (a b c d : OlaAsmOperand) (os : List OlaAsmOperand) → arranged o p (a ∷ b ∷ c ∷ d ∷ os) ≡ Unreadable

@@ -133,10 +133,7 @@ fn row_with(word: &[u8], start: usize, operands: RowOperands) -> RowRead
 {
     match operands {
         RowOperands::Zero => single_row(word, start),
-        RowOperands::One(a) => instruction_row(word, RowOperands::One(a)),
-        RowOperands::Two(a, b) => instruction_row(word, RowOperands::Two(a, b)),
-        RowOperands::Three(a, b, c) => instruction_row(word, RowOperands::Three(a, b, c)),
-        RowOperands::Other => instruction_row(word, RowOperands::Other),
+        _ => instruction_row(word, operands),
     }
 }
 

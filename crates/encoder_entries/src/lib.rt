@@ -21,6 +21,6 @@ pub fn assemble(
     ensures { λ _. ⌜ now (hosts .exit) ≡ hostsLeft (assembled (now (source .entry)) (now (prophets .entry)) (record { entries = length (now (table .entry)); words = length (now (words .entry)); hosts = length (now (hosts .entry)) })) (now (hosts .entry)) ⌝ }
 {
     let assembly = encoder_room::assemble_room(source, prophets, table.len(), words, hosts);
-    relocate_table::label_entries(source, table);
+    relocate_entries::label_entries(source, table);
     assembly
 }

@@ -8,66 +8,24 @@ use native.Mathlib.Nat.{le-refl, zero-add, add-zero}
 use borrow.Author.Needs.{needs}
 use lib.ListN.{length, set, length-append, length-map}
 use lib.Seq.{sets, length-sets}
-use Rattle.text.specs.Answer.{Answer, ok, _>>=_, onOk}
+use Rattle.text.specs.Answer.{Answer, ok, onOk}
 use Rattle.text.proofs.AnswerLaws.{sets-over}
-use Rattle.asm.specs.Rows.{instructions}
 use Rattle.asm.specs.declared.AsmRow.{AsmRow}
 use Rattle.asm.specs.declared.AsmRow.the-variants.{Instruction, LabelCall, LabelJmp, LabelProphet}
 use Rattle.asm.specs.declared.LineRead.the-variants.{Blank, Row, Unreadable}
 use Rattle.asm.specs.declared.RowAt.{RowAt}
-use Rattle.relocate.specs.Labels.{labelRows, entryOf, tableOf}
+use Rattle.relocate.specs.Labels.{tableOf}
 use Rattle.relocate.specs.Relocate.{tabled}
-use Rattle.relocate.specs.Layout.{measured, sortedRowAt, layoutRows, sortedFrom}
+use Rattle.relocate.specs.Layout.{measured, sortedRowAt, sortedFrom}
 use Rattle.relocate.specs.Columns.{columnLeft, kindOf, mappedOf, startOf, lengthOf, addressIn}
 use Rattle.relocate.specs.declared.LabelEntry.{LabelEntry}
 use Rattle.relocate.specs.declared.Layout.{Layout}
-use Rattle.relocate.proofs.StretchLaws.{tabled-measured, measured-order, measured-within, measured-room, measured-labels, measured-instructions}
-use Rattle.relocate.proofs.WalkLaws.{sorted-start, sorted-end, sorted-blank, sorted-row, sorted-unreadable, sorted-next-past, sorted-next-within, sorted-room}
-use Rattle.relocate_table.specs.declared.Progress.{Progress}
-use Rattle.relocate_table.specs.declared.EntryFound.{EntryFound}
-use Rattle.relocate_table.specs.Entries.{entryOfRow, after, entryList, entriesAfter}
-use Rattle.relocate_table.proofs.Laws.{counted-length-le}
-use Rattle.relocate_table.proofs.EntryLaws.{table-entries}
-
--- the entries of the sorted rows from a place on
-abbrev pub entriesFrom : List ℕ → Layout → Progress → ℕ → List LabelEntry
-entriesFrom s l p at = entriesAfter (l .instructions) p (sortedFrom s (l .start) (l .end) at)
-
--- all of them
-abbrev pub allEntries : List ℕ → Layout → List LabelEntry
-allEntries s l = entriesFrom s l (record { seen = 0; address = 0; host = 0 }) 0
-
--- ---- what was measured
-
--- what a measured source says of its table
-pub record Laid (s : List ℕ) (room : ℕ) (l : Layout) : Type 0 where
-  pub rows : List AsmRow
-  pub ordered : l .start ≤ l .end
-  pub ended : l .end ≤ length s
-  pub table : tabled s room ≡ ok rows
-  pub entries : allEntries s l ≡ tableOf rows
-  pub many : l .labels ≡ length (allEntries s l)
-  pub enough : length (allEntries s l) ≤ room
-
--- every measured source does
-pub laid : (s : List ℕ) (room : ℕ) (l : Layout) → measured s room ≡ ok l → Laid s room l
-unfolding _>>=_
-laid s room l h =
-    let a = measured-order s room l h in
-    let b = measured-room s room l h in
-    let c = measured-labels s room l h in
-    let k = length-map (labelRows 0 (layoutRows s l)) (entryOf (instructions (layoutRows s l))) in
-    let e : allEntries s l ≡ tableOf (layoutRows s l) = rw (sorted-start s (l .start) (l .end) a, measured-instructions s room l h) (table-entries (layoutRows s l)) in
-    let d = ap length e in
-    record {
-      rows = layoutRows s l;
-      ordered = omega arith;
-      ended = measured-within s room l h;
-      table = tabled-measured s room ∙ ap (λ (x : Answer Layout). x >>= λ l. ok (layoutRows s l)) h;
-      entries = e;
-      many = omega arith;
-      enough = omega arith;
-    }
+use Rattle.relocate.proofs.WalkLaws.{sorted-end, sorted-blank, sorted-row, sorted-unreadable, sorted-next-past, sorted-next-within, sorted-room}
+use Rattle.relocate_rows.specs.declared.Progress.{Progress}
+use Rattle.relocate_rows.specs.declared.EntryFound.{EntryFound}
+use Rattle.relocate_rows.specs.Entries.{entryOfRow, after, largestCount, entryList, entriesAfter}
+use Rattle.relocate_rows.proofs.Laws.{counted-length-le}
+use Rattle.relocate_rows.proofs.LaidLaws.{entriesFrom, allEntries, laid}
 
 -- ---- one column
 
@@ -215,7 +173,7 @@ module _ {s : List ℕ} {room : ℕ} {l : Layout} {kinds₀ : List ℕ} {mapped�
       after-small (LabelProphet start k) g = let a = further-on in let b = w .seen in let c = w .address in (omega arith, omega arith)
 
       -- how far it has come is small enough for one row more
-      pub filling-small : length s < 2 ^ 63 → (p .seen ≤ 9223372036854775807) × (p .address ≤ 9223372036854775807)
+      pub filling-small : length s < 2 ^ 63 → (p .seen ≤ largestCount) × (p .address ≤ largestCount)
       filling-small k = let b = w .seen in let c = w .address in (omega arith, omega arith)
 
       module _ (entry : EntryFound) (g : entry ≡ entryOfRow (l .instructions) p row) where

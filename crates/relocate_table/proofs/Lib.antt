@@ -1,7 +1,3 @@
-pub mod Laws
-pub mod EntryLaws
+pub mod PutLaws
 pub mod FillLaws
 pub mod TableLaws
-pub mod NextLaws
-pub mod EntryStepLaws
-pub mod Facts

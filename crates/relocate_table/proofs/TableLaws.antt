@@ -4,8 +4,8 @@ use mathlib.Core.Path.{_≡_, sym, ap, _∙_}
 use mathlib.Core.List.{List}
 use native.Mathlib.Omega.{arith}
 use borrow.Author.Needs.{needs}
-use Rattle.text.specs.Answer.{Answer, ok, refused, _>>=_, onOk}
-use Rattle.relocate.specs.Layout.{measured, measuredNumbered, layoutRows}
+use Rattle.text.specs.Answer.{ok, onOk}
+use Rattle.relocate.specs.Layout.{measured, measuredNumbered}
 use Rattle.relocate.specs.Relocate.{tabled, relocateNumber, relocateDetail}
 use Rattle.relocate.specs.Columns.{columnLeft}
 use Rattle.relocate.specs.declared.LabelEntry.{LabelEntry}
@@ -13,18 +13,12 @@ use Rattle.relocate.specs.declared.Layout.{Layout}
 use Rattle.relocate.specs.declared.Measured.{Measured}
 use Rattle.relocate.specs.declared.Measured.the-variants.{Is, Refused}
 use Rattle.relocate.specs.declared.RelocateRefusal.{RelocateRefusal}
-use Rattle.relocate.proofs.StretchLaws.{tabled-measured}
 use Rattle.relocate_names.specs.Shortest.{shortestOf}
-use Rattle.relocate_table.specs.Steps.{layoutIn, rowsIn}
+use Rattle.relocate_rows.proofs.LaidLaws.{not-tabled}
 
 -- the room is at most each column's length
 pub room-fits : (room a b c d e : ℕ) → room ≡ shortestOf a b c d e → (room ≤ a) × (room ≤ b) × (room ≤ c) × (room ≤ d) × (room ≤ e)
 room-fits room a b c d e r = (omega arith, omega arith, omega arith, omega arith, omega arith)
-
--- where the measure refuses, there is no table
-pub not-tabled : (s : List ℕ) (room n d : ℕ) → measured s room ≡ refused n d → tabled s room ≡ refused n d
-unfolding _>>=_
-not-tabled s room n d h = tabled-measured s room ∙ ap (λ (x : Answer Layout). x >>= λ l. ok (layoutRows s l)) h
 
 module _ (s : List ℕ) (room m : ℕ) (r : room ≡ m) (found : Measured) (h : measuredNumbered found ≡ measured s room) where
   -- what was measured is the layout
@@ -49,32 +43,3 @@ pub column-filled : {A : Type 0} (field : LabelEntry → A) (s : List ℕ) (room
 column-filled field s room m d x r e = e ∙ rw r
 
 pub ruleset table-laws = (room-fits, layout-found, answers-layout, answers-refusal, column-kept, column-filled, needs)
-
--- ---- what is to be filled
-
-module _ (s : List ℕ) (room : ℕ) (found : Measured) (h : measuredNumbered found ≡ measured s room) where
-  -- a layout is told as it was measured
-  pub told-layout : (l : Layout) → found ≡ Is l → ok l ≡ measured s room
-  told-layout l f = ap measuredNumbered (sym f) ∙ h
-
-  -- it is the layout of what is to be filled
-  pub filled-layout : (l : Layout) → found ≡ Is l → l ≡ layoutIn (measured s room)
-  filled-layout l f = ap layoutIn (told-layout l f)
-
-  -- and its label rows are so many
-  pub filled-rows : (l : Layout) → found ≡ Is l → l .labels ≡ rowsIn (measured s room)
-  filled-rows l f = ap rowsIn (told-layout l f)
-
-  -- a refusal is told as it was measured
-  pub told-refusal : (x : RelocateRefusal) → found ≡ Refused x → refused (relocateNumber x) (relocateDetail x) ≡ measured s room
-  told-refusal x f = ap measuredNumbered (sym f) ∙ h
-
-  -- there is no layout then
-  pub no-layout : (x : RelocateRefusal) → found ≡ Refused x → record { labels = 0; instructions = 0; counted = 0; words = 0; start = 0; end = 0 } ≡ layoutIn (measured s room)
-  no-layout x f = ap layoutIn (told-refusal x f)
-
-  -- and nothing to be filled
-  pub no-rows : (x : RelocateRefusal) → found ≡ Refused x → 0 ≡ rowsIn (measured s room)
-  no-rows x f = ap rowsIn (told-refusal x f)
-
-pub ruleset to-fill-laws = (told-layout, filled-layout, filled-rows, told-refusal, no-layout, no-rows, needs)

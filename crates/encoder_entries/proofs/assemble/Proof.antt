@@ -50,15 +50,15 @@ use Rattle.relocate.proofs.Measured as ms
 use Rattle.relocate.proofs.Measured.Laws as ms′
 use Rattle.encoder.proofs.Assembly as as′
 use Rattle.encoder.proofs.Assembly.Laws as as″
-use Rattle.relocate_table.proofs.Facts.{says-four}
+use Rattle.relocate_entries.proofs.Facts.{says-four}
 use Rattle.encoder_room.proofs.assemble_room as in-room
 use Rattle.encoder_room.proofs.assemble_room.Symbol as in-room-def
 use Rattle.encoder_room.proofs.assemble_room.Symbol.{name as #encoder-room·assemble-room}
 use Rattle.encoder_room.proofs.assemble_room.Met as in-room-thm
-use Rattle.relocate_table.proofs.label_entries as labels
-use Rattle.relocate_table.proofs.label_entries.Symbol as labels-def
-use Rattle.relocate_table.proofs.label_entries.Symbol.{name as #relocate-table·label-entries}
-use Rattle.relocate_table.proofs.label_entries.Met as labels-thm
+use Rattle.relocate_entries.proofs.label_entries as labels
+use Rattle.relocate_entries.proofs.label_entries.Symbol as labels-def
+use Rattle.relocate_entries.proofs.label_entries.Symbol.{name as #relocate-entries·label-entries}
+use Rattle.relocate_entries.proofs.label_entries.Met as labels-thm
 use Rattle.encoder_entries.proofs.assemble.Key.{name as #encoder-entries·assemble}
 use Rattle.encoder_entries.proofs.assemble as f
 use Rattle.encoder_entries.proofs.assemble.Statement as stated
@@ -246,7 +246,7 @@ module _ {M : Type 1} (𝓤 : URA M) (H : Heap 𝓤) (A : Atoms 𝓤) (W : Given
       frame ! $ move ! (3 ∷ []) $ fsplit ! $ nothing ! $ move ! (2 ∷ 0 ∷ []) $ fjoin ! $ move ! (1 ∷ 0 ∷ []) $ fjoin ! $ move ! (3 ∷ 0 ∷ []) $ fjoin ! $ move ! (2 ∷ 0 ∷ []) $ fjoin ! $
       move ! (1 ∷ 0 ∷ []) $ fjoin ! $ done !
 
-  module _ (C : Calls 𝓤 H) (Λ : Loops 𝓤 H) (fm : FmC 𝓤 H (W .laws) C) (known-room : Triple 𝓤 (C #encoder-room·assemble-room) (InRoom 𝓤 H A at-mem run)) (known-labels : Triple 𝓤 (C #relocate-table·label-entries) (Labels 𝓤 H A at-mem run)) where
+  module _ (C : Calls 𝓤 H) (Λ : Loops 𝓤 H) (fm : FmC 𝓤 H (W .laws) C) (known-room : Triple 𝓤 (C #encoder-room·assemble-room) (InRoom 𝓤 H A at-mem run)) (known-labels : Triple 𝓤 (C #relocate-entries·label-entries) (Labels 𝓤 H A at-mem run)) where
     walk : ent 𝓤 (onEntry 𝓤 H A f.signature (κ₀, (κ₁, (κ₂, (κ₃, (κ₄, tt))))) (q₀, (q₁, (q₂, (q₃, (q₄, tt))))) a vals) (WpFn 𝓤 H C Λ code.function (val s ∷ val p ∷ tv ∷ val wd ∷ val ht ∷ []) Post)
     walk =
         qed W (tokens ∷ ‵ (owns (ShrSlice (named 0) κ₀ u8 ∷ ShrSlice (named 1) κ₁ u8 ∷ MutSlice (named 2) κ₂ R ∷ MutSlice (named 3) κ₃ u64 ∷ MutSlice (named 4) κ₄ u64 ∷ []) a vals) ∷ []) ∵ enter ! C Λ code.function (val s ∷ val p ∷ tv ∷ val wd ∷ val ht ∷ []) _ $
@@ -291,7 +291,7 @@ module _ {M : Type 1} (𝓤 : URA M) (H : Heap 𝓤) (A : Atoms 𝓤) (W : Given
         by ! (exits r w z t left filled))))))))))))))))))))))))))
 
 module _ {M : Type 1} (𝓤 : URA M) (H : Heap 𝓤) (A : Atoms 𝓤) (W : Given 𝓤 H A) (mem : Memory → SProp 𝓤) (run : Routine → Fun 𝓤) where
-  assemble-walks : (C : Calls 𝓤 H) (Λ : Loops 𝓤 H) → FmC 𝓤 H (W .laws) C → Triple 𝓤 (C #encoder-room·assemble-room) (InRoom 𝓤 H A mem run) → Triple 𝓤 (C #relocate-table·label-entries) (Labels 𝓤 H A mem run)
+  assemble-walks : (C : Calls 𝓤 H) (Λ : Loops 𝓤 H) → FmC 𝓤 H (W .laws) C → Triple 𝓤 (C #encoder-room·assemble-room) (InRoom 𝓤 H A mem run) → Triple 𝓤 (C #relocate-entries·label-entries) (Labels 𝓤 H A mem run)
       → Walks 𝓤 H A f.ended stayed (WpFn 𝓤 H C Λ code.function) (f.clauses 𝓤 H A mem run)
   assemble-walks C Λ fm known-room known-labels = walked 𝓤 H A f.ended stayed (f.clauses 𝓤 H A mem run) (WpFn 𝓤 H C Λ code.function)
       (λ κs. (slice-vals, (slice-vals, (slice-vals, (slice-vals, (slice-vals, tt))))))
@@ -300,7 +300,7 @@ module _ {M : Type 1} (𝓤 : URA M) (H : Heap 𝓤) (A : Atoms 𝓤) (W : Given
       (a .0) (a .1 .0) (a .1 .1 .0 .ptr .0) (a .1 .1 .0 .ptr .1) (a .1 .1 .0 .name) (a .1 .1 .0 .now) (a .1 .1 .1 .0) (a .1 .1 .1 .1 .0)
       (are .0 .0 .1) (are .1 .0 .0 .1) (are .1 .1 .0 .0 .1) (are .1 .1 .1 .0 .0 .1) (are .1 .1 .1 .1 .0 .0 .1) C Λ fm known-room known-labels))
 
-assemble-meets : {M : Type 1} (𝓤 : URA M) (H : Heap 𝓤) (A : Atoms 𝓤) (W : Given 𝓤 H A) (mem : Memory → SProp 𝓤) (run : Routine → Fun 𝓤) (𝓣 : Tables 𝓤 H) → Triple 𝓤 (𝓣 .C #encoder-room·assemble-room) (InRoom 𝓤 H A mem run) → Triple 𝓤 (𝓣 .C #relocate-table·label-entries) (Labels 𝓤 H A mem run)
+assemble-meets : {M : Type 1} (𝓤 : URA M) (H : Heap 𝓤) (A : Atoms 𝓤) (W : Given 𝓤 H A) (mem : Memory → SProp 𝓤) (run : Routine → Fun 𝓤) (𝓣 : Tables 𝓤 H) → Triple 𝓤 (𝓣 .C #encoder-room·assemble-room) (InRoom 𝓤 H A mem run) → Triple 𝓤 (𝓣 .C #relocate-entries·label-entries) (Labels 𝓤 H A mem run)
     → Meets 𝓤 H A f.signature (WpFn 𝓤 H (𝓣 .C) (𝓣 .Λ) code.function) (f.spec 𝓤 H A mem run)
 assemble-meets 𝓤 H A W mem run 𝓣 known-room known-labels =
     walk-meets 𝓤 H A f.ended stayed W
@@ -314,4 +314,4 @@ assemble-spec 𝓤 H 𝓜 𝓖 𝓡 =
     (tables 𝓤 H 𝓜 𝓡 code.env .C) (tables 𝓤 H 𝓜 𝓡 code.env .Λ) #encoder-entries·assemble code.function (code.unfolded 𝓤 H 𝓜 𝓡)
     (assemble-meets 𝓤 H (𝓖 .A) (givenOf 𝓤 H 𝓜 𝓖) (𝓜 .mem) (𝓡 .run) (tablesOf 𝓤 H 𝓜 (tables 𝓤 H 𝓜 𝓡 code.env))
     (cited 𝓤 H (InRoom 𝓤 H (𝓖 .A) (𝓜 .mem) (𝓡 .run)) 𝓜 𝓡 code.env #encoder-room·assemble-room in-room-def.routine code.calls-encoder-room·assemble-room (in-room-thm.met 𝓤 H 𝓜 𝓖 𝓡))
-    (cited 𝓤 H (Labels 𝓤 H (𝓖 .A) (𝓜 .mem) (𝓡 .run)) 𝓜 𝓡 code.env #relocate-table·label-entries labels-def.routine code.calls-relocate-table·label-entries (labels-thm.met 𝓤 H 𝓜 𝓖 𝓡)))
+    (cited 𝓤 H (Labels 𝓤 H (𝓖 .A) (𝓜 .mem) (𝓡 .run)) 𝓜 𝓡 code.env #relocate-entries·label-entries labels-def.routine code.calls-relocate-entries·label-entries (labels-thm.met 𝓤 H 𝓜 𝓖 𝓡)))

@@ -50,7 +50,7 @@ use Rattle.encoder.proofs.Assembly as as′
 use Rattle.encoder.proofs.Assembly.Laws as as″
 use Rattle.ola_answers.proofs.OlaAssembly as out′
 use Rattle.ola_answers.proofs.OlaAssembly.Laws as out″
-use Rattle.relocate_table.proofs.Facts.{says-four}
+use Rattle.relocate_entries.proofs.Facts.{says-four}
 use Rattle.encoder_entries.proofs.assemble as inner
 use Rattle.encoder_entries.proofs.assemble.Symbol as inner-def
 use Rattle.encoder_entries.proofs.assemble.Symbol.{name as #encoder-entries·assemble}

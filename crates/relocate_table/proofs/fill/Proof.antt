@@ -6,8 +6,8 @@ use Rattle.relocate_table.proofs.fill.Tie as tie
 use Rattle.relocate_table.proofs.fill.Reads as reads
 use Rattle.relocate_table.proofs.fill.Lts as lts
 use Rattle.relocate_table.proofs.put_entry.Reads as put-entry-reads
-use Rattle.relocate_table.proofs.row_after.Reads as row-after-reads
-use Rattle.relocate_table.proofs.row_entry.Reads as row-entry-reads
+use Rattle.relocate_table.proofs.advance.Reads as advance-reads
+use Rattle.relocate_rows.proofs.row_entry.Reads as row-entry-reads
 use Rattle.relocate_walk.proofs.sorted_row.Reads as sorted-row-reads
 
 abbrev Inv-loop : tie.InvT-loop
@@ -38,8 +38,8 @@ enum-known-read c = search fill-laws
 row-entry-requires : tie.Need-row-entry-requires Inv-loop μ-loop
 row-entry-requires c κs = search fill-laws
 
-row-after-requires : tie.Need-row-after-requires Inv-loop μ-loop
-row-after-requires c κs = search fill-laws
+advance-requires : tie.Need-advance-requires Inv-loop μ-loop
+advance-requires c κs = search fill-laws
 
 put-entry-requires : tie.Need-put-entry-requires Inv-loop μ-loop
 put-entry-requires c κs = (search fill-laws, (search fill-laws, (search fill-laws, (search fill-laws, search fill-laws))))
@@ -90,7 +90,7 @@ fill-spec =
     loop-again
     enum-known-read
     row-entry-requires
-    row-after-requires
+    advance-requires
     put-entry-requires
     loop-less-2
     loop-again-2

@@ -1,4 +1,4 @@
-use Rattle.relocate_table.proofs.Laws.{put-one, put-laws}
+use Rattle.relocate_table.proofs.PutLaws.{put-one, put-laws}
 use Rattle.relocate.specs.Columns.{kindOf, mappedOf, startOf, lengthOf, addressIn}
 use borrow.Author.Needs.{needs}
 use Rattle.relocate_table.proofs.put_entry.Statement.{statement}

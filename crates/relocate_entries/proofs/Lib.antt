@@ -1,0 +1,4 @@
+pub mod NextLaws
+pub mod EntryStepLaws
+pub mod ToFillLaws
+pub mod Facts
