@@ -130,15 +130,10 @@ pub(crate) fn put_written(text: &[u8], written: OlaWritten) -> Answer {
     put(head, text)
 }
 
-// What the bytecode writer answers for words and a text of zeros.
-fn put_bytecode(words: &[u64], text: &mut [u8]) -> Answer {
-    let written = program_bytecode::write_bytecode(words, text);
-    put_written(text, ola_answers::written_out(written))
-}
-
-// The same in a text of so many bytes, at most 4096.
+// What the bytecode writer answers for words and a text of so many bytes, at most 4096.
 pub(crate) fn put_words(words: &[u64], room: usize) -> Answer {
     let n = within(room, 4096);
     let mut text = [0u8; 4096];
-    put_bytecode(words, &mut text[..n])
+    let written = program_bytecode::write_bytecode(words, &mut text[..n]);
+    put_written(&text, ola_answers::written_out(written))
 }

@@ -17,6 +17,7 @@ use crate::fields::part;
 use crate::fields::parted;
 use crate::fields::unescape;
 use crate::fields::within;
+use encoder::Assembly;
 use ola_answers::OlaAssembly;
 use relocate::AddressFound;
 
@@ -187,8 +188,9 @@ fn put_assembly(line: &[u8], source: &[u8], done: Assembled) -> Answer {
     put_addresses(calls, parted(line, TAB, 11), source, done, 1)
 }
 
+// What was answered and written, in one struct.
 fn gathered(
-    found: OlaAssembly,
+    answer: Assembly,
     kinds: [u8; 512],
     mapped: [bool; 512],
     starts: [usize; 512],
@@ -198,7 +200,7 @@ fn gathered(
     hosts: [u64; 512],
 ) -> Assembled {
     Assembled {
-        found,
+        found: ola_answers::assembly_out(answer),
         kinds,
         mapped,
         starts,
@@ -221,7 +223,7 @@ fn assemble(source: &[u8], prophets: &[u8], e: usize, w: usize, h: usize) -> Ass
     let mut words = [0u64; 512];
     let host_room = within(h, 512);
     let mut hosts = [0u64; 512];
-    let found = encoder_assemble::assemble_parts(
+    let out = encoder_assemble::assemble_parts(
         source,
         prophets,
         &mut kinds[..entries],
@@ -232,16 +234,7 @@ fn assemble(source: &[u8], prophets: &[u8], e: usize, w: usize, h: usize) -> Ass
         &mut words[..word_room],
         &mut hosts[..host_room],
     );
-    gathered(
-        ola_answers::assembly_out(found),
-        kinds,
-        mapped,
-        starts,
-        lengths,
-        addresses,
-        words,
-        hosts,
-    )
+    gathered(out, kinds, mapped, starts, lengths, addresses, words, hosts)
 }
 
 // Assembling a source with the prophet list and the room of a line.

@@ -2,7 +2,7 @@
 // Each argument names a file of cases, one a line; tests/oracle/record/main.rs says at its top what the fields are. In a field of text \*N; and a
 // byte stand for N of that byte. A line that begins with # is a comment. Prints for each file its name, each line that differs, how many cases it
 // has and how many differ, how many are accepted, and how many cases of each refusal agree. A line that cannot be read differs.
-// The port's answer is written as the line says its own, and the two are compared byte by byte.
+// The port's answer is written as the line says its own, but for escapes, and the two are compared byte by byte. One that does not fit differs.
 mod answers;
 mod assembling;
 mod fields;
@@ -68,34 +68,33 @@ fn put_answer(function: usize, line: &[u8], given: &[u8]) -> Answer {
     }
 }
 
-// Where the tally counts a case with this answer, if the port answers so.
+// Where the tally counts a case whose line says this answer, if the port answers so.
 fn verdict(said: &[u8], answer: Answer) -> u64 {
+    let mut text = [0u8; 4096];
+    let n = unescape(said, &mut text);
     let bytes = answer.bytes;
-    if said.len() == 0 {
+    if 4096 < answer.count {
         return DIFFERS;
     }
-    if text::same_bytes(part(&bytes, 0, answer.count), said) {
+    if text::same_bytes(part(&text, 0, n), part(&bytes, 0, answer.count)) {
         return answer.refusal;
     }
     DIFFERS
 }
 
-// Where the tally counts the case of a function's line, with space for its texts.
-fn run_in(function: usize, line: &[u8], space: &mut [u8]) -> u64 {
-    let n = unescape(parted(line, TAB, 1), space);
-    if space.len() < n {
-        return DIFFERS;
-    }
-    let answer = put_answer(function, line, part(space, 0, n));
-    let start = start_of(line, TAB, answer_place(function));
-    let m = unescape(part(line, start, line.len()), space);
-    verdict(part(space, 0, m), answer)
-}
-
 // Where the tally counts a line's case.
 fn run_case(line: &[u8]) -> u64 {
+    let function = function_of(line);
+    let start = start_of(line, TAB, answer_place(function));
     let mut space = [0u8; 524300];
-    run_in(function_of(line), line, &mut space)
+    let n = unescape(parted(line, TAB, 1), &mut space);
+    if 524300 < n {
+        return DIFFERS;
+    }
+    verdict(
+        part(line, start, line.len()),
+        put_answer(function, line, part(&space, 0, n)),
+    )
 }
 
 // Prints some bytes and a number.
@@ -170,16 +169,11 @@ fn print_tally(tally: Tally) {
     print_refusals(counts);
 }
 
-// Runs the cases of the file that a descriptor reads, with space for it, and prints the counts.
-fn run_from(fd: i32, space: &mut [u8]) {
-    let n = io::read_full(fd, space);
-    print_tally(run_lines(part(space, 0, n)));
-}
-
-// Runs the cases of the file that a descriptor reads.
+// Runs the cases of the file that a descriptor reads, and prints the counts.
 fn run_file(fd: i32) {
-    let mut space = [0u8; 262144];
-    run_from(fd, &mut space);
+    let mut file = [0u8; 262144];
+    let n = io::read_full(fd, &mut file);
+    print_tally(run_lines(part(&file, 0, n)));
 }
 
 // Prints a file's name and what its cases come to.

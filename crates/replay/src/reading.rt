@@ -45,27 +45,31 @@ fn step_from(text: &[u8], line: usize) -> OlaStep {
     ola_steps::step_out(found, passed(step.line, line))
 }
 
-// As many instructions as a line says, by a run of calls from the first line: none where it finds fewer, one more where it finds more.
+// The instruction that a call of next found where refusal 0 is due, and nothing where another is; a byte that no line has where it was answered
+// otherwise.
+fn put_step(answer: Answer, step: OlaStep, due: u64) -> Answer {
+    if step.refusal != due {
+        return put_byte(answer, 33);
+    }
+    if due != 0 {
+        return answer;
+    }
+    let instruction = step.instruction;
+    put_instruction(answer, instruction)
+}
+
+// As many instructions as a line says, by a run of calls from the first line, after which none is left.
 fn put_run(head: Answer, text: &[u8], count: usize) -> Answer {
     let mut out = head;
     let mut offset: usize = 0;
     let mut i: usize = 0;
     while i < count {
         let step = step_at(text, offset);
-        if step.refusal != 0 {
-            return head;
-        }
-        let instruction = step.instruction;
-        out = put_instruction(out, instruction);
+        out = put_step(out, step, 0);
         offset = step.line as usize;
         i += 1;
     }
-    let last = step_at(text, offset);
-    if last.refusal == 20 {
-        return out;
-    }
-    let more = last.instruction;
-    put_instruction(out, more)
+    put_step(out, step_at(text, offset), 20)
 }
 
 // Opening, and what the opened bytecode holds.
@@ -75,7 +79,7 @@ pub(crate) fn put_open(line: &[u8], text: &[u8]) -> Answer {
     if opened.refusal != 0 {
         return head;
     }
-    let count = count_of(parted(line, TAB, 3));
+    let count = count_of(parted(line, TAB, 3)) % FAULT;
     put_run(put_number(put_byte(head, TAB), count as u64), text, count)
 }
 
@@ -169,30 +173,29 @@ fn list_row(given: OlaInstruction, text: &mut [u8]) -> OlaWritten {
     ola_answers::row_out(program_listing::get_asm_form_code(instruction, text))
 }
 
-// The listing row of an instruction in a text of zeros.
-fn put_listed(given: OlaInstruction, text: &mut [u8]) -> Answer {
-    let written = list_row(given, text);
-    put_written(text, written)
-}
-
 // The listing row of an instruction, in a text of so many bytes, at most 256.
 pub(crate) fn put_row(list: &[u8], room: usize) -> Answer {
     let n = within(room, 256);
     let mut text = [0u8; 256];
-    put_listed(instruction_of(list), &mut text[..n])
+    let written = list_row(instruction_of(list), &mut text[..n]);
+    put_written(&text, written)
 }
 
-// The bytecode of at most 16 words, in a text of so many bytes.
+// The bytecode of at most 15 words, in a text of so many bytes.
 pub(crate) fn put_write(list: &[u8], room: usize) -> Answer {
     let mut words = [0u64; 16];
     let mut i: usize = 0;
     while i < 16 {
-        let found = read_number(parted(list, SPACE, i));
-        let Numeral::Value(word) = found else {
+        let digits = parted(list, SPACE, i);
+        if digits.len() == 0 {
             return put_words(first_of(&words, i), room);
+        }
+        let found = read_number(digits);
+        let Numeral::Value(word) = found else {
+            return put_head(99, 0);
         };
         words[i] = word;
         i += 1;
     }
-    put_words(&words, room)
+    put_head(99, 0)
 }

@@ -1,8 +1,9 @@
 -- `put_words` meets its contract.
-use lib.ListN.{length}
+use Prim.Native.Nat.{ℕ}
+use mathlib.Core.Path.{sym, _∙_}
+use lib.ListN.{replicate, length-replicate}
+use lib.Seq.{length-front, length-take-le}
 use native.Mathlib.Omega.{arith}
-use mathlib.Core.Path.{sym}
-use lib.Seq.{length-take-le}
 use borrow.Author.Needs.{needs}
 use Rattle.replay.proofs.answers.put_words.Statement.{statement}
 use Rattle.replay.proofs.answers.put_words.Tie as tie
@@ -13,11 +14,20 @@ within-requires c κs = search needs
 array-borrow-prefix-text : tie.Need-array-borrow-prefix-text
 array-borrow-prefix-text c = search needs
 
-slice-aggregate-put-bytecode : tie.Need-slice-aggregate-put-bytecode
-slice-aggregate-put-bytecode c = sym (length-take-le _ _ (omega arith))
+slice-aggregate-write-bytecode : tie.Need-slice-aggregate-write-bytecode
+slice-aggregate-write-bytecode c = sym (length-take-le _ _ (omega arith))
 
-put-bytecode-requires : tie.Need-put-bytecode-requires
-put-bytecode-requires c κs = search needs
+write-bytecode-requires : tie.Need-write-bytecode-requires
+write-bytecode-requires c κs = search needs
+
+slice-aggregate-put-written : tie.Need-slice-aggregate-put-written
+slice-aggregate-put-written c = sym (length-front {A = ℕ} (replicate 4096 0) (c .before .before .write-bytecode .last .1 .0) (c .before .before .before .before .within .result) (c .before .before .write-bytecode .kept .1 .0) ∙ length-replicate {A = ℕ} 4096 0)
+
+written-out-requires : tie.Need-written-out-requires
+written-out-requires c κs = search needs
+
+put-written-requires : tie.Need-put-written-requires
+put-written-requires c κs = search needs
 
 returns : tie.Need-returns
 returns c = search needs
@@ -28,6 +38,9 @@ put-words-spec =
     (tie.spec
     within-requires
     array-borrow-prefix-text
-    slice-aggregate-put-bytecode
-    put-bytecode-requires
+    slice-aggregate-write-bytecode
+    write-bytecode-requires
+    slice-aggregate-put-written
+    written-out-requires
+    put-written-requires
     returns)

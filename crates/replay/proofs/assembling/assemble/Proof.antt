@@ -61,9 +61,6 @@ slice-aggregate-assemble-parts-7 c = sym (length-take-le _ _ (omega arith))
 assemble-parts-requires : tie.Need-assemble-parts-requires
 assemble-parts-requires c κs = search needs
 
-assembly-out-requires : tie.Need-assembly-out-requires
-assembly-out-requires c κs = search needs
-
 gathered-requires : tie.Need-gathered-requires
 gathered-requires c κs = search needs
 
@@ -92,6 +89,5 @@ assemble-spec =
     array-borrow-prefix-hosts
     slice-aggregate-assemble-parts-7
     assemble-parts-requires
-    assembly-out-requires
     gathered-requires
     returns)

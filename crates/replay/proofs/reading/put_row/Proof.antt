@@ -1,8 +1,9 @@
 -- `put_row` meets its contract.
-use lib.ListN.{length}
+use Prim.Native.Nat.{ℕ}
+use mathlib.Core.Path.{sym, _∙_}
+use lib.ListN.{replicate, length-replicate}
+use lib.Seq.{length-front, length-take-le}
 use native.Mathlib.Omega.{arith}
-use mathlib.Core.Path.{sym}
-use lib.Seq.{length-take-le}
 use borrow.Author.Needs.{needs}
 use Rattle.replay.proofs.reading.put_row.Statement.{statement}
 use Rattle.replay.proofs.reading.put_row.Tie as tie
@@ -16,11 +17,17 @@ instruction-of-requires c κs = search needs
 array-borrow-prefix-text : tie.Need-array-borrow-prefix-text
 array-borrow-prefix-text c = search needs
 
-slice-aggregate-put-listed : tie.Need-slice-aggregate-put-listed
-slice-aggregate-put-listed c = sym (length-take-le _ _ (omega arith))
+slice-aggregate-list-row : tie.Need-slice-aggregate-list-row
+slice-aggregate-list-row c = sym (length-take-le _ _ (omega arith))
 
-put-listed-requires : tie.Need-put-listed-requires
-put-listed-requires c κs = search needs
+list-row-requires : tie.Need-list-row-requires
+list-row-requires c κs = search needs
+
+slice-aggregate-put-written : tie.Need-slice-aggregate-put-written
+slice-aggregate-put-written c = sym (length-front {A = ℕ} (replicate 256 0) (c .before .before .list-row .last .1 .0) (c .before .before .before .before .before .within .result) (c .before .before .list-row .kept .1 .0) ∙ length-replicate {A = ℕ} 256 0)
+
+put-written-requires : tie.Need-put-written-requires
+put-written-requires c κs = search needs
 
 returns : tie.Need-returns
 returns c = search needs
@@ -32,6 +39,8 @@ put-row-spec =
     within-requires
     instruction-of-requires
     array-borrow-prefix-text
-    slice-aggregate-put-listed
-    put-listed-requires
+    slice-aggregate-list-row
+    list-row-requires
+    slice-aggregate-put-written
+    put-written-requires
     returns)

@@ -5,10 +5,10 @@ use Rattle.replay.proofs.reading.put_run.Statement.{statement}
 use Rattle.replay.proofs.reading.put_run.Tie as tie
 
 abbrev Inv-loop : tie.InvT-loop
-Inv-loop head text count out₀ offset₀ i₀ out offset i = Unit {0}
+Inv-loop text count out₀ offset₀ i₀ out offset i = Unit {0}
 
 abbrev μ-loop : tie.MeasureT-loop
-μ-loop head text count out₀ offset₀ i₀ out offset i = count - i
+μ-loop text count out₀ offset₀ i₀ out offset i = count - i
 
 loop-holds : tie.Need-loop-holds Inv-loop μ-loop
 loop-holds c = search needs
@@ -16,11 +16,8 @@ loop-holds c = search needs
 step-at-requires : tie.Need-step-at-requires Inv-loop μ-loop
 step-at-requires c κs = search needs
 
-returns : tie.Need-returns Inv-loop μ-loop
-returns c = search needs
-
-put-instruction-requires : tie.Need-put-instruction-requires Inv-loop μ-loop
-put-instruction-requires c κs = search needs
+put-step-requires : tie.Need-put-step-requires Inv-loop μ-loop
+put-step-requires c κs = search needs
 
 add-i : tie.Need-add-i Inv-loop μ-loop
 add-i c = search needs
@@ -34,14 +31,11 @@ loop-again c = search needs
 step-at-requires-2 : tie.Need-step-at-requires-2 Inv-loop μ-loop
 step-at-requires-2 c κs = search needs
 
-returns-2 : tie.Need-returns-2 Inv-loop μ-loop
-returns-2 c = search needs
+put-step-requires-2 : tie.Need-put-step-requires-2 Inv-loop μ-loop
+put-step-requires-2 c κs = search needs
 
-put-instruction-requires-2 : tie.Need-put-instruction-requires-2 Inv-loop μ-loop
-put-instruction-requires-2 c κs = search needs
-
-returns-3 : tie.Need-returns-3 Inv-loop μ-loop
-returns-3 c = search needs
+returns : tie.Need-returns Inv-loop μ-loop
+returns c = search needs
 
 pub put-run-spec : {M : Type 1} → statement M
 put-run-spec =
@@ -51,12 +45,10 @@ put-run-spec =
     μ-loop
     loop-holds
     step-at-requires
-    returns
-    put-instruction-requires
+    put-step-requires
     add-i
     loop-less
     loop-again
     step-at-requires-2
-    returns-2
-    put-instruction-requires-2
-    returns-3)
+    put-step-requires-2
+    returns)

@@ -18,15 +18,6 @@ loop-holds c = search needs
 parted-requires : tie.Need-parted-requires Inv-loop μ-loop
 parted-requires c κs = search needs
 
-read-number-requires : tie.Need-read-number-requires Inv-loop μ-loop
-read-number-requires c κs = search needs
-
-enum-known-found : tie.Need-enum-known-found Inv-loop μ-loop
-enum-known-found c = search needs
-
-enum-told : tie.Need-enum-told Inv-loop μ-loop
-enum-told c = search needs
-
 slice-aggregate-first-of : tie.Need-slice-aggregate-first-of Inv-loop μ-loop
 slice-aggregate-first-of c = search needs
 
@@ -38,6 +29,21 @@ put-words-requires c κs = search needs
 
 returns : tie.Need-returns Inv-loop μ-loop
 returns c = search needs
+
+read-number-requires : tie.Need-read-number-requires Inv-loop μ-loop
+read-number-requires c κs = search needs
+
+enum-known-found : tie.Need-enum-known-found Inv-loop μ-loop
+enum-known-found c = search needs
+
+enum-told : tie.Need-enum-told Inv-loop μ-loop
+enum-told c = search needs
+
+put-head-requires : tie.Need-put-head-requires Inv-loop μ-loop
+put-head-requires c κs = search needs
+
+returns-2 : tie.Need-returns-2 Inv-loop μ-loop
+returns-2 c = search needs
 
 mul-words : tie.Need-mul-words Inv-loop μ-loop
 mul-words c = search needs
@@ -54,14 +60,11 @@ loop-less c = search needs
 loop-again : tie.Need-loop-again Inv-loop μ-loop
 loop-again c = search needs
 
-slice-aggregate-put-words : tie.Need-slice-aggregate-put-words Inv-loop μ-loop
-slice-aggregate-put-words c = search needs
+put-head-requires-2 : tie.Need-put-head-requires-2 Inv-loop μ-loop
+put-head-requires-2 c κs = search needs
 
-put-words-requires-2 : tie.Need-put-words-requires-2 Inv-loop μ-loop
-put-words-requires-2 c κs = search needs
-
-returns-2 : tie.Need-returns-2 Inv-loop μ-loop
-returns-2 c = search needs
+returns-3 : tie.Need-returns-3 Inv-loop μ-loop
+returns-3 c = search needs
 
 pub put-write-spec : {M : Type 1} → statement M
 put-write-spec =
@@ -71,18 +74,19 @@ put-write-spec =
     μ-loop
     loop-holds
     parted-requires
-    read-number-requires
-    enum-known-found
-    enum-told
     slice-aggregate-first-of
     first-of-requires
     put-words-requires
     returns
+    read-number-requires
+    enum-known-found
+    enum-told
+    put-head-requires
+    returns-2
     mul-words
     array-write-words
     add-i
     loop-less
     loop-again
-    slice-aggregate-put-words
-    put-words-requires-2
-    returns-2)
+    put-head-requires-2
+    returns-3)
