@@ -14,7 +14,7 @@ ghost use Rattle.program.specs.Refusals.{rowNumber, encodeNumber, encodeDetail}
 ghost use Rattle.program_bytecode.specs.Written.{writtenNumbered};
 ghost use Rattle.program_encode.specs.Encoding.{encodingNumbered};
 ghost use Rattle.program_listing.specs.Row.{rowNumbered};
-ghost use Rattle.ola_answers.specs.Answers.{assemblyOf, writtenOf, encodingOf};
+ghost use Rattle.ola_answers.specs.Answers.{assemblyOf, writtenOf, encodingOf, namePart};
 
 #[repr(C)]
 pub struct OlaAssembly {
@@ -178,4 +178,23 @@ pub fn encoding_out(answer: Encoding) -> OlaEncoding
             second: 0,
         },
     }
+}
+
+// The part of a source that a name at a place is, none where the source does not reach so far.
+pub fn name_out(source: &[u8], start: usize, length: usize) -> OlaName
+    ensures { λ r. ⌜ r ≡ namePart (now (source .entry)) start length ⌝ }
+{
+    if source.len() < start {
+        return OlaName {
+            start: 0,
+            length: 0,
+        };
+    }
+    if source.len() - start < length {
+        return OlaName {
+            start: 0,
+            length: 0,
+        };
+    }
+    OlaName { start, length }
 }

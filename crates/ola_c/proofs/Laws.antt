@@ -1,10 +1,8 @@
 -- Laws of the exported functions: what a callee's answer is, its numbers are.
-use Prim.Native.Nat.{ℕ, _+_, _-_, _<_, _≤_}
+use Prim.Native.Nat.{ℕ}
 use mathlib.Core.Path.{_≡_, refl, ap, _∙_}
 use mathlib.Core.List.{List}
-use native.Mathlib.Omega.{arith}
 use borrow.Author.Needs.{needs}
-use borrow.Author.Tests.{le-leb, lt-leb}
 use lib.ListN.{length}
 use Rattle.text.specs.Answer.{Answer, _>>=_, onOk}
 use Rattle.encoder.specs.Assemble.{numbered}
@@ -28,7 +26,7 @@ use Rattle.ola_places.specs.Places.{instructionIn}
 use Rattle.ola_places.specs.declared.OlaInstruction.{OlaInstruction}
 use Rattle.ola_places.specs.declared.InstructionNamed.{InstructionNamed}
 use Rattle.ola_places.specs.declared.InstructionNamed.the-variants.{Is, Nothing}
-use Rattle.ola_answers.specs.Answers.{assemblyOf, writtenOf, encodingOf, namePart}
+use Rattle.ola_answers.specs.Answers.{assemblyOf, writtenOf, encodingOf}
 use Rattle.ola_answers.specs.declared.OlaAssembly.{OlaAssembly}
 use Rattle.ola_answers.specs.declared.OlaWritten.{OlaWritten}
 use Rattle.ola_answers.specs.declared.OlaEncoding.{OlaEncoding}
@@ -54,20 +52,6 @@ pub offset-answers : (a : StepAt) (x : SteppedAt) (r : OlaStep) → stepNumbered
 offset-answers a x r e g = g ∙ ap offsetStep e
 
 pub ruleset answer-laws = (assembly-answers, written-answers, opened-answers, line-answers, offset-answers, needs)
-
--- ---- the part that a name is
-
-module _ (s : List ℕ) (start n : ℕ) where
-  pub starts-past : length s < start → record { start = 0; length = 0 } ≡ namePart s start n
-  starts-past h = rw (lt-leb (start + n) (length s) (omega arith))
-
-  pub reaches-past : start ≤ length s → length s - start < n → record { start = 0; length = 0 } ≡ namePart s start n
-  reaches-past g h = rw (lt-leb (start + n) (length s) (omega arith))
-
-  pub name-within : start ≤ length s → n ≤ length s - start → record { start = start; length = n } ≡ namePart s start n
-  name-within g h = rw (le-leb (start + n) (length s) (omega arith))
-
-pub ruleset name-laws = (starts-past, reaches-past, name-within, needs)
 
 -- ---- an instruction given as numbers
 

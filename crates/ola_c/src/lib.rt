@@ -82,21 +82,7 @@ pub extern "C" fn ola_assemble(
 pub extern "C" fn ola_label_name(source: &[u8], entry: LabelEntry) -> OlaName
     ensures { λ r. ⌜ r ≡ namePart (now (source .entry)) (entry .start) (entry .length) ⌝ }
 {
-    let start = entry.start;
-    let length = entry.length;
-    if source.len() < start {
-        return OlaName {
-            start: 0,
-            length: 0,
-        };
-    }
-    if source.len() - start < length {
-        return OlaName {
-            start: 0,
-            length: 0,
-        };
-    }
-    OlaName { start, length }
+    ola_answers::name_out(source, entry.start, entry.length)
 }
 
 // Writes the bytecode text of words.
