@@ -8,7 +8,7 @@ use native.Mathlib.Omega.{arith}
 use borrow.Author.Needs.{needs}
 use borrow.Author.Tests.{le-leb, ltb-false, le-ltb}
 use lib.ListN.{length, take, drop, length-map, length-append, length-take}
-use lib.Seq.{sets}
+use lib.Seq.{sets, length-take-le}
 use Rattle.text.specs.Lists.{total}
 use Rattle.text.specs.Answer.{Answer, ok, refused, _>>=_, _>>_, over, onOk}
 use Rattle.text.proofs.AnswerLaws.{not-ok, ok-same, ok-bind, if-passed, at-passed, sets-over}
@@ -291,7 +291,8 @@ module _ (s list : List ℕ) (entries wordroom hostroom : ℕ) (x : Measured) (e
 
 pub ruleset source-laws = (source-refused, source-words, source-hosts, room-measured, source-told, source-wrote, source-hosted, table-filled, needs)
 
--- the counts with the prophets kept
-pub counts-told : (l : Layout) (count : ℕ) (hs : List ℕ) (k : ℕ) → k ≡ keptCount (take count hs)
-    → Assembled (record { labels = l .labels; words = l .words; hosts = count; kept = k }) ≡ Assembled (record { labels = l .labels; words = l .words; hosts = count; kept = keptCount (take count hs) })
-counts-told l count hs k e = ap (λ (n : ℕ). Assembled (record { labels = l .labels; words = l .words; hosts = count; kept = n })) e
+-- the part that is counted is as long as its count
+pub counts-told : (l : Layout) (count : ℕ) (hs : List ℕ) (r : Assembly) → count ≤ length hs
+    → r ≡ Assembled (record { labels = l .labels; words = l .words; hosts = length (take count hs); kept = keptCount (take count hs) })
+    → r ≡ Assembled (record { labels = l .labels; words = l .words; hosts = count; kept = keptCount (take count hs) })
+counts-told l count hs r h e = e ∙ ap (λ (n : ℕ). Assembled (record { labels = l .labels; words = l .words; hosts = n; kept = keptCount (take count hs) })) (length-take-le count hs h)

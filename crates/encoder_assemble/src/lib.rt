@@ -1,7 +1,6 @@
 // Assembling over parallel slices: `encode_to_binary` of assembler/src/encoder.rs, each step a function of its own.
 use encoder::AssembleRefusal;
 use encoder::Assembly;
-use encoder::Totals;
 use encoder_checks::Checked;
 use encoder_lines::CanonicalLine;
 use program::BinaryInstruction;
@@ -91,13 +90,7 @@ fn counts(layout: Layout, count: usize, hosts: &[u64]) -> Assembly
     requires { ⌜ count ≤ length (now hosts) ⌝ }
     ensures { λ r. ⌜ r ≡ Assembled (record { labels = layout .labels; words = layout .words; hosts = count; kept = keptCount (take count (now (hosts .entry))) }) ⌝ }
 {
-    let kept = relocate_kept::kept_count(&hosts[..count]);
-    Assembly::Assembled(Totals {
-        labels: layout.labels,
-        words: layout.words,
-        hosts: count,
-        kept,
-    })
+    encoder_counts::totals(layout, &hosts[..count])
 }
 
 // Refusals 8 to 13, and else the words and hosts, of a source whose label table is filled and has no more entries.
