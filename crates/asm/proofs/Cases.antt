@@ -1,11 +1,13 @@
--- Inputs that separate likely misreadings of operand shapes, rows and counted lengths, by computation. Expected values: document 01,
+-- Inputs that separate likely misreadings of operand shapes, rows, counted lengths and surveys, by computation. Expected values: document 01,
 -- READINGS 1 to 5 and 11, and the patterns of assembler/src/operands.rs and assembler/src/asm.rs.
 use Prim.Native.Nat.{ℕ}
 use mathlib.Core.Path.{_≡_, refl}
 use mathlib.Core.List.{List, [], _∷_, map}
 use mathlib.Core.Option.{Option, none, some}
 use Rattle.text.specs.Bytes.{bytes, isSpace, isDigit, isLetter, isWord, same}
+use Rattle.text.specs.Lists.{total}
 use Rattle.text.specs.Scan.{scan, all, parts}
+use Rattle.text.specs.Answer.{Answer, ok, refused, _>>=_}
 use Rattle.text_read.specs.Numerals.{digitValue, valueFrom, numeral}
 use Rattle.vm_opcodes.specs.Operations.{operations, firstOperation}
 use Rattle.vm_opcodes.specs.declared.OlaOpcode.the-variants.{ADD, MOV, CJMP, RET, MLOAD, MSTORE, NOT, JMP, SIGCHECK, EVENT}
@@ -13,9 +15,10 @@ use Rattle.vm_hardware.specs.Registers.{registers, registerOf, specialOf}
 use Rattle.vm_hardware.specs.declared.OlaRegister.the-variants.{R0, R1, R2, R3, R9}
 use Rattle.vm_hardware.specs.declared.OlaSpecialRegister.the-variants.{PC, PSP}
 use Rattle.vm_operands.specs.Numbers.{immediate, signed, numberOf}
-use Rattle.asm.specs.Parts.{Part, placed, filledParts, piecesFrom, linePieces, rowPieces, sourcePieces}
+use Rattle.asm.specs.Parts.{Part, placed, filledParts, piecesFrom, linePieces, rowPieces, nameAt, sourcePieces}
 use Rattle.asm.specs.Operands.{shapes, firstMatch, operandOf}
-use Rattle.asm.specs.Rows.{arranged, operandsOf, arrangedIf, isCallRow, isPairRow, labelRow, rowOf, instruction, countedLength}
+use Rattle.asm.specs.Rows.{arranged, operandsOf, arrangedIf, isCallRow, isPairRow, labelRow, rowOf, readRows, instruction, instructions, countedLength}
+use Rattle.asm.specs.Survey.{countRows, firstCall, mainStart, mainEnd, surveyFrom, surveyOf}
 use Rattle.asm.specs.declared.OlaAsmOperand.{OlaAsmOperand}
 use Rattle.asm.specs.declared.OlaAsmOperand.the-variants.{Empty, ImmediateOperand, RegisterOperand, RegisterWithOffset, RegisterWithFactoredRegOffset, SpecialReg, Label, Identifier}
 use Rattle.asm.specs.declared.OperandRead.{OperandRead}
@@ -24,6 +27,9 @@ use Rattle.asm.specs.declared.AsmRow.{AsmRow}
 use Rattle.asm.specs.declared.AsmRow.the-variants.{Instruction, LabelCall, LabelJmp, LabelProphet}
 use Rattle.asm.specs.declared.RowRead.{RowRead}
 use Rattle.asm.specs.declared.RowRead.the-variants.{Is as IsRow, Unreadable as NoRow}
+use Rattle.asm.specs.declared.PlaceFound.{PlaceFound}
+use Rattle.asm.specs.declared.PlaceFound.the-variants.{At, Nothing}
+use Rattle.asm.specs.declared.Tally.{Tally}
 
 -- a piece that starts at byte 7
 abbrev piece : List ℕ → OperandRead
@@ -152,14 +158,33 @@ lengthCases =
     ∷ (bytes "end", some 1)
     ∷ []
 
-operands-right : map (λ c. piece (c .0)) operandCases ≡ map (λ c. c .1) operandCases
+-- rows, label rows, instructions and mains; counted length and words; where the first call label and main's scope start, and where that ends
+abbrev sums : ℕ → ℕ → ℕ → ℕ → ℕ → ℕ → PlaceFound → PlaceFound → PlaceFound → Answer Tally
+sums r l i m n w c s e = ok (record { rows = r; labels = l; instructions = i; mains = m; counted = n; words = w; call = c; main = s; end = e })
+
+abbrev surveyCases : List (List ℕ × Answer Tally)
+surveyCases =
+    -- "A scope runs from one call label to the next"
+    (bytes "f:\nret\nmain:\njmp 1\n.LBL1_1:\nend\ng:", sums 7 4 3 1 4 4 (At 0) (At 7) (At 32))
+    -- READING 4: "The main scope is the call label `main` exactly; `main.1:` is another name"
+    ∷ (bytes "main.1:\nMain:\nend", sums 3 2 1 0 1 1 (At 0) Nothing Nothing)
+    -- 3: "an unreadable row (non-empty rows before it)"
+    ∷ (bytes "main:\n\nend\nfoo", refused 3 2)
+    ∷ []
+
+-- the cases are exported, since modules that export are checked first: a wrong definition is told by its case, then by the laws
+pub operands-right : map (λ c. piece (c .0)) operandCases ≡ map (λ c. c .1) operandCases
 unfolding isDigit isLetter isWord same scan all digitValue valueFrom numeral registers registerOf specialOf signed numberOf shapes firstMatch
 operands-right = refl
 
-rows-right : map (λ c. rowsOf (c .0)) rowCases ≡ map (λ c. c .1) rowCases
+pub rows-right : map (λ c. rowsOf (c .0)) rowCases ≡ map (λ c. c .1) rowCases
 unfolding isSpace isDigit isLetter isWord same scan all parts digitValue valueFrom numeral operations firstOperation registers registerOf specialOf signed numberOf placed filledParts piecesFrom linePieces rowPieces shapes firstMatch arranged operandsOf arrangedIf isCallRow isPairRow labelRow rowOf
 rows-right = refl
 
-lengths-right : map (λ c. lengthOf (rowsOf (c .0))) lengthCases ≡ map (λ c. c .1) lengthCases
+pub lengths-right : map (λ c. lengthOf (rowsOf (c .0))) lengthCases ≡ map (λ c. c .1) lengthCases
 unfolding isSpace isDigit isLetter isWord same scan all parts digitValue valueFrom numeral operations firstOperation registers registerOf specialOf signed numberOf placed filledParts piecesFrom linePieces rowPieces shapes firstMatch arranged operandsOf arrangedIf isCallRow isPairRow labelRow rowOf
 lengths-right = refl
+
+pub surveys-right : map (λ c. surveyOf (c .0)) surveyCases ≡ map (λ c. c .1) surveyCases
+unfolding isSpace isDigit isLetter isWord same total scan all parts _>>=_ digitValue valueFrom numeral operations firstOperation registers registerOf specialOf signed numberOf placed filledParts piecesFrom linePieces rowPieces nameAt shapes firstMatch arranged operandsOf arrangedIf isCallRow isPairRow labelRow rowOf readRows instructions countRows firstCall mainStart mainEnd surveyFrom
+surveys-right = refl

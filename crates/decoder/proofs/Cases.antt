@@ -146,19 +146,20 @@ refusalCases =
     ∷ (nextRefused NoneLeft, refused 20 0)
     ∷ []
 
-opens-right : map (λ c. opened (c .0)) openCases ≡ map (λ c. c .1) openCases
+-- the cases are exported, since modules that export are checked first: a wrong definition is told by its case, then by the laws
+pub opens-right : map (λ c. opened (c .0)) openCases ≡ map (λ c. c .1) openCases
 unfolding isDigit scan all parts lines ended _>>=_ _>>_ refuseIf refuseAt digitValue valueFrom numeral unprefixed hexadecimal operations firstOperation registers firstRegister signed numberOf grouped completeOf firstUnreadable memoryBuilt builtWith onNumber onOperation onFirst allDecoded opened firstRead next run
 opens-right = refl
 
-nexts-right : map (λ c. next (c .0) (c .1)) nextCases ≡ map (λ c. c .2) nextCases
+pub nexts-right : map (λ c. next (c .0) (c .1)) nextCases ≡ map (λ c. c .2) nextCases
 unfolding isDigit scan all parts lines ended _>>=_ _>>_ refuseIf refuseAt digitValue valueFrom numeral unprefixed hexadecimal operations firstOperation registers firstRegister signed numberOf grouped completeOf firstUnreadable memoryBuilt builtWith onNumber onOperation onFirst allDecoded opened firstRead next run
 nexts-right = refl
 
-runs-right : map (λ c. run (c .0) (c .1) 0) runCases ≡ map (λ c. c .2) runCases
+pub runs-right : map (λ c. run (c .0) (c .1) 0) runCases ≡ map (λ c. c .2) runCases
 unfolding isDigit scan all parts lines ended _>>=_ _>>_ refuseIf refuseAt digitValue valueFrom numeral unprefixed hexadecimal operations firstOperation registers firstRegister signed numberOf grouped completeOf firstUnreadable memoryBuilt builtWith onNumber onOperation onFirst allDecoded opened firstRead next run
 runs-right = refl
 
-refusals-right : map (λ c. c .0) refusalCases ≡ map (λ c. c .1) refusalCases
+pub refusals-right : map (λ c. c .0) refusalCases ≡ map (λ c. c .1) refusalCases
 refusals-right = refl
 
 -- 14 stands before everything else, whatever the line is

@@ -19,7 +19,7 @@ use Rattle.asm.specs.declared.OlaAsmOperand.the-variants.{Empty, ImmediateOpera
 use Rattle.asm.specs.declared.OlaAsmInstruction.{OlaAsmInstruction}
 use Rattle.asm.specs.declared.AsmRow.{AsmRow}
 use Rattle.asm.proofs.NumberLaws.{OperandBelow, OperandsBelow}
-use Rattle.relocate.specs.Labels.{LabelRow, callKind, jmpKind, addressOf}
+use Rattle.relocate.specs.Labels.{LabelRow, addressOf}
 use Rattle.relocate.specs.Relocate.{sortedOf, tabled, hostsOf}
 use Rattle.program.specs.Instructions.{made, aNumber, isNumber, carried, isMemory}
 use Rattle.program.specs.Words.{programWords}
@@ -126,8 +126,8 @@ plain-content names k (RegisterOperand r) c e = subst PlainContent (ok-same e) (
 plain-content names k (RegisterWithOffset r v) c e = subst PlainContent (ok-same e) (no-number-there none)
 plain-content names k (RegisterWithFactoredRegOffset r t v) c e = subst PlainContent (ok-same e) (no-number-there none)
 plain-content names k (SpecialReg t) c e = subst PlainContent (ok-same e) (no-number-there none)
-plain-content names k (Label start n) c e = found-content names k (holderOf names jmpKind start n) c e
-plain-content names k (Identifier start n) c e = found-content names k (holderOf names callKind start n) c e
+plain-content names k (Label start n) c e = found-content names k (holderOf names _ start n) c e
+plain-content names k (Identifier start n) c e = found-content names k (holderOf names _ start n) c e
 
 no-number-aside : {c : OlaOperand} → PlainContent c → isNumber c ≡ false → Aside c
 no-number-aside (no-number-there r) e = aside r
@@ -175,8 +175,8 @@ module _ (names : Names) (addresses : (n : ℕ) → addressOf (names .instructio
   plain-below k (RegisterWithOffset r v) c e h = subst (λ c. BelowOrder (carried c)) (ok-same e) no-number
   plain-below k (RegisterWithFactoredRegOffset r t v) c e h = subst (λ c. BelowOrder (carried c)) (ok-same e) no-number
   plain-below k (SpecialReg t) c e h = subst (λ c. BelowOrder (carried c)) (ok-same e) no-number
-  plain-below k (Label start n) c e h = found-below k (holderOf names jmpKind start n) c e
-  plain-below k (Identifier start n) c e h = found-below k (holderOf names callKind start n) c e
+  plain-below k (Label start n) c e h = found-below k (holderOf names _ start n) c e
+  plain-below k (Identifier start n) c e h = found-below k (holderOf names _ start n) c e
 
   anchored-below : (o : OlaOpcode) (x y : OlaAsmOperand) (b : BinaryInstruction) → Anchored o x y b → OperandBelow x → InOrder b
   anchored-below o x y b (by-offset a d v) h = record { op0 = no-number; op1 = below h; dst = no-number }

@@ -9,7 +9,7 @@ use lib.ListN.{length}
 use Rattle.text.specs.Bytes.{bytes, isSpace, isDigit, isLetter, isWord, same}
 use Rattle.text.specs.Lists.{total}
 use Rattle.text.specs.Scan.{scan, all, parts}
-use Rattle.text.specs.Answer.{Answer, ok, refused, _>>=_, _>>_, refuseIf, refuseAt}
+use Rattle.text.specs.Answer.{Answer, ok, refused, _>>=_, _>>_, refuseIf, refuseAt, onOk}
 use Rattle.text_read.specs.Numerals.{digitValue, valueFrom, numeral}
 use Rattle.vm_opcodes.specs.Operations.{operations, firstOperation}
 use Rattle.vm_hardware.specs.Registers.{registers, registerOf, specialOf}
@@ -22,6 +22,7 @@ use Rattle.relocate.specs.Scopes.{cutAtCalls, scopesThat, rowsOfScopes}
 use Rattle.relocate.specs.Labels.{labelRows, holder, tableOf}
 use Rattle.relocate.specs.Prophets.{withoutLastEmpty, labelsAfterHead, listedLabels, hostsFrom, isIn, keptFrom, keptCount}
 use Rattle.relocate.specs.Relocate.{firstAbove127, rowsRead, sortedOf, tabled, hostsOf}
+use Rattle.relocate.specs.Columns.{columnLeft, addressIn}
 use Rattle.relocate.specs.declared.LabelEntry.{LabelEntry}
 
 -- kind, mapped, start, length, address
@@ -63,6 +64,15 @@ tableCases =
     ∷ (9, bytes "main:\n.PROPHET0_0:\nmov r1 5\n.PROPHET0_1:\nend\n.PROPHET0_2:", ok (entry 0 true 0 4 0 ∷ entry 2 true 6 11 0 ∷ entry 2 true 28 11 0 ∷ entry 2 false 45 11 0 ∷ []))
     ∷ []
 
+-- a source, a column of addresses lent, and what stands in it afterwards
+abbrev columnCases : List (List ℕ × List ℕ × List ℕ)
+columnCases =
+    -- "Entries past these are untouched"
+    (bytes "main:\nret\nf:\nend", 7 ∷ 8 ∷ 9 ∷ [], 0 ∷ 1 ∷ 9 ∷ [])
+    -- "Refusals up to 7 in this order leave the table untouched"
+    ∷ (bytes "main:\nret\nf:\nend", 7 ∷ [], 7 ∷ [])
+    ∷ []
+
 -- the hosts of a prophet list, and how many are kept
 abbrev hostsWith : List ℕ → List ℕ → Answer (List ℕ × ℕ)
 hostsWith s list = sortedOf s >>= λ rows. hostsOf s rows list >>= λ hs. ok (hs, keptCount hs)
@@ -92,11 +102,16 @@ hostCases =
     ∷ (bytes "main:\nend", (108 ∷ 97 ∷ 98 ∷ 101 ∷ 108 ∷ 10 ∷ 200 ∷ []), refused 9 0)
     ∷ []
 
-tables-right : map (λ c. tableWith (c .0) (c .1)) tableCases ≡ map (λ c. c .2) tableCases
+-- the cases are exported, since modules that export are checked first: a wrong definition is told by its case, then by the laws
+pub tables-right : map (λ c. tableWith (c .0) (c .1)) tableCases ≡ map (λ c. c .2) tableCases
 unfolding isSpace isDigit isLetter isWord same total scan all parts _>>=_ _>>_ refuseIf refuseAt digitValue valueFrom numeral operations firstOperation registers registerOf specialOf signed numberOf placed filledParts piecesFrom linePieces rowPieces shapes firstMatch arranged operandsOf arrangedIf isCallRow isPairRow labelRow rowOf nameAt cutAtCalls scopesThat rowsOfScopes instructions labelRows holder firstAbove127 readRows rowsRead sortedOf tabled
 tables-right = refl
 
-hosts-right : map (λ c. hostsWith (c .0) (c .1)) hostCases ≡ map (λ c. c .2) hostCases
+pub columns-right : map (λ c. columnLeft (tabled (c .0) (length (c .1))) addressIn (c .1)) columnCases ≡ map (λ c. c .2) columnCases
+unfolding isSpace isDigit isLetter isWord same total scan all parts _>>=_ _>>_ refuseIf refuseAt onOk digitValue valueFrom numeral operations firstOperation registers registerOf specialOf signed numberOf placed filledParts piecesFrom linePieces rowPieces shapes firstMatch arranged operandsOf arrangedIf isCallRow isPairRow labelRow rowOf nameAt cutAtCalls scopesThat rowsOfScopes instructions labelRows holder firstAbove127 readRows rowsRead sortedOf tabled
+columns-right = refl
+
+pub hosts-right : map (λ c. hostsWith (c .0) (c .1)) hostCases ≡ map (λ c. c .2) hostCases
 unfolding isSpace isDigit isLetter isWord same total scan all parts _>>=_ _>>_ refuseIf refuseAt digitValue valueFrom numeral operations firstOperation registers registerOf specialOf signed numberOf placed filledParts piecesFrom linePieces rowPieces shapes firstMatch arranged operandsOf arrangedIf isCallRow isPairRow labelRow rowOf nameAt cutAtCalls scopesThat rowsOfScopes instructions labelRows holder withoutLastEmpty labelsAfterHead listedLabels hostsFrom isIn keptFrom firstAbove127 readRows rowsRead sortedOf hostsOf
 hosts-right = refl
 
