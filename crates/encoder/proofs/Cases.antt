@@ -129,6 +129,8 @@ printCases =
     ([], bytes "refusal detail\n4 0\n")
     ∷ (bytes "main:\nend\nfoo", bytes "refusal detail\n3 2\n")
     ∷ (bytes "main:", bytes "address word\n")
+    -- "decimal position of each word, and the word as the bytecode text prints it"; the words of ret and end are those of 01's example
+    ∷ (bytes "main:\nret\nend", bytes "address word\n0 0x0000000000800000\n1 0x0000000000100000\n")
     ∷ []
 
 words-right : map (λ c. wordsOk (assembled (c .0) [] (room 9 9 9))) wordCases ≡ map (λ c. c .1) wordCases
