@@ -20,7 +20,7 @@ use Rattle.relocate.specs.Labels.{labelRows, entryOf, tableOf}
 use Rattle.relocate.specs.Prophets.{keptCount}
 use Rattle.relocate.specs.Relocate.{tabled, hostsOf, relocateNumber, relocateDetail}
 use Rattle.relocate.specs.Layout.{measured, measuredNumbered, layoutRows, sortedInstructions}
-use Rattle.relocate.specs.Columns.{columnLeft, kindOf, mappedOf, startOf, lengthOf, addressIn, entriesOf, heldHosts, hostsPut}
+use Rattle.relocate.specs.Columns.{columnLeft, kindOf, mappedOf, startOf, lengthOf, addressIn, entriesOf, LookUp, lookedIn, heldHosts, hostsPut}
 use Rattle.relocate.specs.declared.LabelEntry.{LabelEntry}
 use Rattle.relocate.specs.declared.Layout.{Layout}
 use Rattle.relocate.specs.declared.Measured.{Measured}
@@ -94,7 +94,7 @@ filled s list rows room a e =
 pub within-source : (s : List ℕ) (n : ℕ) (l : Layout) → measured s n ≡ ok l → (l .start ≤ l .end) × (l .end ≤ length s)
 within-source s n l h = let a = measured-order s n l h in (omega arith, measured-within s n l h)
 
-module _ (s list : List ℕ) (n : ℕ) (l : Layout) (h : measured s n ≡ ok l) (es : List LabelEntry) (t : es ≡ tableOf (layoutRows s l)) where
+module _ (s list : List ℕ) (n : ℕ) (l : Layout) (h : measured s n ≡ ok l) (look : LookUp) (t : look ≡ lookedIn s (tableOf (layoutRows s l))) where
   ordered : (l .start ≤ l .end) × (l .end ≤ length s)
   ordered = within-source s n l h
 
@@ -103,24 +103,24 @@ module _ (s list : List ℕ) (n : ℕ) (l : Layout) (h : measured s n ≡ ok l) 
   unfolding sortedInstructions
   sorted-is = rw (le-leb _ _ (ordered .0), le-leb _ _ (ordered .1)) (ap instructions (sorted-start s (l .start) (l .end) (measured-order s n l h)))
 
-  hosts-held : heldHosts s es list ≡ hostsOf s (layoutRows s l) list
-  hosts-held = ap (λ (x : List LabelEntry). heldHosts s x list) t ∙ held-hosts s (layoutRows s l) list
+  hosts-held : heldHosts look list ≡ hostsOf s (layoutRows s l) list
+  hosts-held = ap (λ (x : LookUp). heldHosts x list) t ∙ held-hosts s (layoutRows s l) list
 
-  program-held : heldProgram s es 0 (sortedInstructions s (l .start) (l .end)) ≡ canonicalProgram s (layoutRows s l)
+  program-held : heldProgram s look 0 (sortedInstructions s (l .start) (l .end)) ≡ canonicalProgram s (layoutRows s l)
   program-held = rw (t, sorted-is) (held-program s (layoutRows s l) 0 (instructions (layoutRows s l)))
 
   words-counted : (bs : List BinaryInstruction) → canonicalProgram s (layoutRows s l) ≡ ok bs → firstMisplaced 0 bs ≡ none → length (programWords bs) ≡ l .words
-  words-counted bs e m = program-words s es 0 0 (sortedInstructions s (l .start) (l .end)) bs (program-held ∙ e) m ∙ ap (λ (is : List OlaAsmInstruction). total (map wordCount is)) sorted-is ∙ sym (measured-words s n l h)
+  words-counted bs e m = program-words s look 0 0 (sortedInstructions s (l .start) (l .end)) bs (program-held ∙ e) m ∙ ap (λ (is : List OlaAsmInstruction). total (map wordCount is)) sorted-is ∙ sym (measured-words s n l h)
 
   module _ (entries wordroom hostroom : ℕ) where
-    together : checkedOf s list es l wordroom hostroom ≡ hostsIn (encodedRows s (layoutRows s l) list (record { entries = entries; words = wordroom; hosts = hostroom }))
+    together : checkedOf s list look l wordroom hostroom ≡ hostsIn (encodedRows s (layoutRows s l) list (record { entries = entries; words = wordroom; hosts = hostroom }))
     unfolding heldCount
     together =
-        stages-together s list (layoutRows s l) es l (record { entries = entries; words = wordroom; hosts = hostroom }) hosts-held (ap (λ (x : Answer (List BinaryInstruction)). x >>= λ bs. ok (length bs)) program-held)
-        (λ bs e. ap placeOption (held-misplaced s es 0 (sortedInstructions s (l .start) (l .end)) bs (program-held ∙ e)) ∙ same-place (firstMisplaced 0 bs))
+        stages-together s list (layoutRows s l) look l (record { entries = entries; words = wordroom; hosts = hostroom }) hosts-held (ap (λ (x : Answer (List BinaryInstruction)). x >>= λ bs. ok (length bs)) program-held)
+        (λ bs e. ap placeOption (held-misplaced s look 0 (sortedInstructions s (l .start) (l .end)) bs (program-held ∙ e)) ∙ same-place (firstMisplaced 0 bs))
         words-counted
 
-    module _ (x : Checked) (e : checkedNumbered x ≡ checkedOf s list es l wordroom hostroom) where
+    module _ (x : Checked) (e : checkedNumbered x ≡ checkedOf s list look l wordroom hostroom) where
       -- a refusal is that of the source
       module _ (f : AssembleRefusal) (g : x ≡ Refused f) where
         refused-so : encodedRows s (layoutRows s l) list (record { entries = entries; words = wordroom; hosts = hostroom }) ≡ refused (assembleNumber f) (assembleDetail f)
@@ -152,30 +152,30 @@ module _ (s list : List ℕ) (n : ℕ) (l : Layout) (h : measured s n ≡ ok l) 
         counted : length (a .hosts) ≡ count
         counted = ok-same (accepted .2)
 
-        words-are : heldWords s es (sortedInstructions s (l .start) (l .end)) ≡ a .words
-        words-are = held-words s es 0 (sortedInstructions s (l .start) (l .end)) (a .program) (program-held ∙ is-filled .canonical) ∙ sym (is-filled .words)
+        words-are : heldWords s look (sortedInstructions s (l .start) (l .end)) ≡ a .words
+        words-are = held-words s look 0 (sortedInstructions s (l .start) (l .end)) (a .program) (program-held ∙ is-filled .canonical) ∙ sym (is-filled .words)
 
-        pub words-fit : (w : List ℕ) → wordroom ≡ length w → length (heldWords s es (sortedInstructions s (l .start) (l .end))) ≤ length w
+        pub words-fit : (w : List ℕ) → wordroom ≡ length w → length (heldWords s look (sortedInstructions s (l .start) (l .end))) ≤ length w
         words-fit w k = let b = ap length words-are in let c = is-filled .wordroom in omega arith
 
-        pub words-written : (w v : List ℕ) → wordroom ≡ length w → v ≡ sets w 0 (heldWords s es (sortedInstructions s (l .start) (l .end))) → v ≡ wordsLeft (encodedRows s (layoutRows s l) list (record { entries = entries; words = wordroom; hosts = hostroom })) w
+        pub words-written : (w v : List ℕ) → wordroom ≡ length w → v ≡ sets w 0 (heldWords s look (sortedInstructions s (l .start) (l .end))) → v ≡ wordsLeft (encodedRows s (layoutRows s l) list (record { entries = entries; words = wordroom; hosts = hostroom })) w
         unfolding onOk
         words-written w v k i =
             i ∙ ap (sets w 0) words-are ∙ sets-over (a .words) w (let c = is-filled .wordroom in omega arith)
             ∙ sym (ap (λ (y : Answer Accepted). wordsLeft y w) (accepted .1))
 
-        hosts-over : (w v : List ℕ) → hostroom ≡ length w → v ≡ hostsPut (heldHosts s es list) w → v ≡ over (a .hosts) w
+        hosts-over : (w v : List ℕ) → hostroom ≡ length w → v ≡ hostsPut (heldHosts look list) w → v ≡ over (a .hosts) w
         unfolding onOk
         hosts-over w v k i =
             let c = is-filled .hostroom in
             i ∙ ap (λ (y : Answer (List ℕ)). hostsPut y w) (hosts-held ∙ is-filled .hosts)
             ∙ rw (le-ltb (length w) (length (a .hosts)) (omega arith))
 
-        pub hosts-written : (w v : List ℕ) → hostroom ≡ length w → v ≡ hostsPut (heldHosts s es list) w → v ≡ hostsLeft (encodedRows s (layoutRows s l) list (record { entries = entries; words = wordroom; hosts = hostroom })) w
+        pub hosts-written : (w v : List ℕ) → hostroom ≡ length w → v ≡ hostsPut (heldHosts look list) w → v ≡ hostsLeft (encodedRows s (layoutRows s l) list (record { entries = entries; words = wordroom; hosts = hostroom })) w
         unfolding onOk
         hosts-written w v k i = hosts-over w v k i ∙ sym (ap (λ (y : Answer Accepted). hostsLeft y w) (accepted .1))
 
-        pub count-fits : (w v : List ℕ) → hostroom ≡ length w → v ≡ hostsPut (heldHosts s es list) w → count ≤ length v
+        pub count-fits : (w v : List ℕ) → hostroom ≡ length w → v ≡ hostsPut (heldHosts look list) w → count ≤ length v
         count-fits w v k i =
             let c = is-filled .hostroom in
             let d = counted in
@@ -183,7 +183,7 @@ module _ (s list : List ℕ) (n : ℕ) (l : Layout) (h : measured s n ≡ ok l) 
             let y = length-append (a .hosts) (drop (length (a .hosts)) w) in
             omega arith
 
-        pub totals-told : (w v : List ℕ) (r : Assembly) → hostroom ≡ length w → v ≡ hostsPut (heldHosts s es list) w
+        pub totals-told : (w v : List ℕ) (r : Assembly) → hostroom ≡ length w → v ≡ hostsPut (heldHosts look list) w
             → r ≡ Assembled (record { labels = l .labels; words = l .words; hosts = count; kept = keptCount (take count v) })
             → numbered r ≡ (encodedRows s (layoutRows s l) list (record { entries = entries; words = wordroom; hosts = hostroom }) >>= λ a. ok (totalsOf a))
         unfolding _>>=_

@@ -1,2 +1,4 @@
+pub mod LabelLaws
+pub mod ChainedLaws
 pub mod WriteLaws
 pub mod FilledLaws

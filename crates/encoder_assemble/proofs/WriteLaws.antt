@@ -13,7 +13,7 @@ use Rattle.text.proofs.AnswerLaws.{ok-same}
 use Rattle.text_write.proofs.Laws.{sets-append}
 use Rattle.asm.specs.declared.OlaAsmInstruction.{OlaAsmInstruction}
 use Rattle.relocate.specs.Layout.{sortedInstructions}
-use Rattle.relocate.specs.declared.LabelEntry.{LabelEntry}
+use Rattle.relocate.specs.Columns.{LookUp}
 use Rattle.program.specs.Words.{firstWord, secondWord, inOrder, wordsOf, programWords, secondOf}
 use Rattle.program.specs.declared.BinaryInstruction.{BinaryInstruction}
 use Rattle.program.specs.declared.SecondWord.{SecondWord}
@@ -85,82 +85,82 @@ pub ruleset put-laws = (put-first, put-second, put-two, put-both, put-one, put-a
 
 -- ---- the words of the rows
 
-module _ (s : List ℕ) (es : List LabelEntry) (start end at : ℕ) (r : CanonicalAt) (e : r ≡ canonicalAt s es start end at) (a : start ≤ end) (b : end ≤ length s) (h : at < length s) where
+module _ (s : List ℕ) (look : LookUp) (start end at : ℕ) (r : CanonicalAt) (e : r ≡ canonicalAt s look start end at) (a : start ≤ end) (b : end ≤ length s) (h : at < length s) where
   -- what a row became stands before the words of the rows behind it
-  words-row : (c : Canonical) → r .found ≡ ofCanonical c → heldWords s es (rowsFrom s start end at) ≡ wordsIf c ++ heldWords s es (rowsFrom s start end (r .next))
+  words-row : (c : Canonical) → r .found ≡ ofCanonical c → heldWords s look (rowsFrom s start end at) ≡ wordsIf c ++ heldWords s look (rowsFrom s start end (r .next))
   unfolding heldWords
   words-row c f =
-      let w = line-row s es start end at r a b e h c f in
-      ap (heldWords s es) (w .rest) ∙ ap (λ (x : Canonical). wordsIf x ++ heldWords s es (rowsFrom s start end (r .next))) (w .held)
+      let w = line-row s look start end at r a b e h c f in
+      ap (heldWords s look) (w .rest) ∙ ap (λ (x : Canonical). wordsIf x ++ heldWords s look (rowsFrom s start end (r .next))) (w .held)
 
   -- a line that is no instruction row has no words
-  words-skip : r .found ≡ Skip → heldWords s es (rowsFrom s start end at) ≡ heldWords s es (rowsFrom s start end (r .next))
-  words-skip f = ap (heldWords s es) (line-skip s es start end at r a b e h f)
+  words-skip : r .found ≡ Skip → heldWords s look (rowsFrom s start end at) ≡ heldWords s look (rowsFrom s start end (r .next))
+  words-skip f = ap (heldWords s look) (line-skip s look start end at r a b e h f)
 
-  module _ (n : ℕ) (new : List ℕ) (k : n + length (heldWords s es (rowsFrom s start end at)) ≤ length new) where
+  module _ (n : ℕ) (new : List ℕ) (k : n + length (heldWords s look (rowsFrom s start end at)) ≤ length new) where
     -- a line that is no instruction row leaves the room
-    pub room-skip : r .found ≡ Skip → n + length (heldWords s es (rowsFrom s start end (r .next))) ≤ length new
+    pub room-skip : r .found ≡ Skip → n + length (heldWords s look (rowsFrom s start end (r .next))) ≤ length new
     room-skip f = let w = ap length (words-skip f) in omega arith
 
     -- so does a row with an unknown name
-    pub room-unknown : r .found ≡ UnknownLine → n + length (heldWords s es (rowsFrom s start end (r .next))) ≤ length new
+    pub room-unknown : r .found ≡ UnknownLine → n + length (heldWords s look (rowsFrom s start end (r .next))) ≤ length new
     room-unknown f = let w = ap length (words-row Unknown f) in omega arith
 
     -- and one with no memory operand
-    pub room-misused : r .found ≡ MisusedLine → n + length (heldWords s es (rowsFrom s start end (r .next))) ≤ length new
+    pub room-misused : r .found ≡ MisusedLine → n + length (heldWords s look (rowsFrom s start end (r .next))) ≤ length new
     room-misused f = let w = ap length (words-row Misused f) in omega arith
 
     module _ (m : BinaryInstruction) (f : r .found ≡ MadeLine m) where
       -- an instruction's words and those behind it, counted
-      words-count : length (heldWords s es (rowsFrom s start end at)) ≡ length (wordsOf m) + length (heldWords s es (rowsFrom s start end (r .next)))
-      words-count = ap length (words-row (Made m) f) ∙ length-append (wordsOf m) (heldWords s es (rowsFrom s start end (r .next)))
+      words-count : length (heldWords s look (rowsFrom s start end at)) ≡ length (wordsOf m) + length (heldWords s look (rowsFrom s start end (r .next)))
+      words-count = ap length (words-row (Made m) f) ∙ length-append (wordsOf m) (heldWords s look (rowsFrom s start end (r .next)))
 
       -- an instruction has room for its words
       pub room-made : n + length (wordsOf m) ≤ length new
       room-made = let w = words-count in omega arith
 
       -- and they leave room for the rest
-      pub room-more : (p : ℕ) (next : List ℕ) → p ≡ n + length (wordsOf m) → next ≡ sets new n (wordsOf m) → p + length (heldWords s es (rowsFrom s start end (r .next))) ≤ length next
+      pub room-more : (p : ℕ) (next : List ℕ) → p ≡ n + length (wordsOf m) → next ≡ sets new n (wordsOf m) → p + length (heldWords s look (rowsFrom s start end (r .next))) ≤ length next
       room-more p next g i =
           let w = words-count in
           let l : length next ≡ length new = ap length i ∙ length-sets new n (wordsOf m) in
           omega arith
 
-  module _ (n : ℕ) (old new : List ℕ) (t : sets old 0 (heldWords s es (sortedInstructions s start end)) ≡ sets new n (heldWords s es (rowsFrom s start end at))) where
+  module _ (n : ℕ) (old new : List ℕ) (t : sets old 0 (heldWords s look (sortedInstructions s start end)) ≡ sets new n (heldWords s look (rowsFrom s start end at))) where
     -- a line that is no instruction row leaves what is to be written
-    pub write-skip : r .found ≡ Skip → sets old 0 (heldWords s es (sortedInstructions s start end)) ≡ sets new n (heldWords s es (rowsFrom s start end (r .next)))
+    pub write-skip : r .found ≡ Skip → sets old 0 (heldWords s look (sortedInstructions s start end)) ≡ sets new n (heldWords s look (rowsFrom s start end (r .next)))
     write-skip f = t ∙ ap (sets new n) (words-skip f)
 
     -- so does a row with an unknown name
-    pub write-unknown : r .found ≡ UnknownLine → sets old 0 (heldWords s es (sortedInstructions s start end)) ≡ sets new n (heldWords s es (rowsFrom s start end (r .next)))
+    pub write-unknown : r .found ≡ UnknownLine → sets old 0 (heldWords s look (sortedInstructions s start end)) ≡ sets new n (heldWords s look (rowsFrom s start end (r .next)))
     write-unknown f = t ∙ ap (sets new n) (words-row Unknown f)
 
     -- and one with no memory operand
-    pub write-misused : r .found ≡ MisusedLine → sets old 0 (heldWords s es (sortedInstructions s start end)) ≡ sets new n (heldWords s es (rowsFrom s start end (r .next)))
+    pub write-misused : r .found ≡ MisusedLine → sets old 0 (heldWords s look (sortedInstructions s start end)) ≡ sets new n (heldWords s look (rowsFrom s start end (r .next)))
     write-misused f = t ∙ ap (sets new n) (words-row Misused f)
 
     -- an instruction's words more
     pub write-more : (m : BinaryInstruction) (p : ℕ) (next : List ℕ) → r .found ≡ MadeLine m → p ≡ n + length (wordsOf m) → next ≡ sets new n (wordsOf m)
-        → sets old 0 (heldWords s es (sortedInstructions s start end)) ≡ sets next p (heldWords s es (rowsFrom s start end (r .next)))
+        → sets old 0 (heldWords s look (sortedInstructions s start end)) ≡ sets next p (heldWords s look (rowsFrom s start end (r .next)))
     write-more m p next f g i =
         t
         ∙ ap (sets new n) (words-row (Made m) f)
-        ∙ sets-append (wordsOf m) (heldWords s es (rowsFrom s start end (r .next))) new n
+        ∙ sets-append (wordsOf m) (heldWords s look (rowsFrom s start end (r .next))) new n
         ∙ rw (g, i)
 
-module _ (s : List ℕ) (es : List LabelEntry) (start end : ℕ) (a : start ≤ end) (b : end ≤ length s) where
+module _ (s : List ℕ) (look : LookUp) (start end : ℕ) (a : start ≤ end) (b : end ≤ length s) where
   -- the words from the start on are all of them
-  pub write-start : (old : List ℕ) → sets old 0 (heldWords s es (sortedInstructions s start end)) ≡ sets old 0 (heldWords s es (rowsFrom s start end 0))
+  pub write-start : (old : List ℕ) → sets old 0 (heldWords s look (sortedInstructions s start end)) ≡ sets old 0 (heldWords s look (rowsFrom s start end 0))
   write-start old = rw (rows-start s start end a b)
 
   -- there is room for them
-  pub room-start : (old : List ℕ) → length (heldWords s es (sortedInstructions s start end)) ≤ length old → 0 + length (heldWords s es (rowsFrom s start end 0)) ≤ length old
-  room-start old h = let w = ap (λ (is : List OlaAsmInstruction). length (heldWords s es is)) (rows-start s start end a b) in omega arith
+  pub room-start : (old : List ℕ) → length (heldWords s look (sortedInstructions s start end)) ≤ length old → 0 + length (heldWords s look (rowsFrom s start end 0)) ≤ length old
+  room-start old h = let w = ap (λ (is : List OlaAsmInstruction). length (heldWords s look is)) (rows-start s start end a b) in omega arith
 
   -- at the source's end they are written
   pub write-end : (at n : ℕ) (old new : List ℕ) → length s ≤ at
-      → sets old 0 (heldWords s es (sortedInstructions s start end)) ≡ sets new n (heldWords s es (rowsFrom s start end at))
-      → new ≡ sets old 0 (heldWords s es (sortedInstructions s start end))
+      → sets old 0 (heldWords s look (sortedInstructions s start end)) ≡ sets new n (heldWords s look (rowsFrom s start end at))
+      → new ≡ sets old 0 (heldWords s look (sortedInstructions s start end))
   unfolding heldWords
   write-end at n old new h t = sym (t ∙ rw (rows-end s start end at a b h))
 
@@ -173,10 +173,10 @@ pub ruleset write-laws = (line-laws, write-start, room-start, write-end, room-sk
 -- ---- a program whose names are all known
 
 -- the words of the rows are those of the program
-pub held-words : (s : List ℕ) (es : List LabelEntry) (k : ℕ) (is : List OlaAsmInstruction) (bs : List BinaryInstruction)
-    → heldProgram s es k is ≡ ok bs → heldWords s es is ≡ programWords bs
+pub held-words : (s : List ℕ) (look : LookUp) (k : ℕ) (is : List OlaAsmInstruction) (bs : List BinaryInstruction)
+    → heldProgram s look k is ≡ ok bs → heldWords s look is ≡ programWords bs
 unfolding heldWords programWords heldProgram
-held-words s es k [] bs e = rw (← (ok-same e))
-held-words s es k (i ∷ is) bs e =
-    let w = accepted-first s es k i is bs e in
-    rw (w .held, held-words s es (suc k) is (w .later) (w .rest)) (ap programWords (w .whole))
+held-words s look k [] bs e = rw (← (ok-same e))
+held-words s look k (i ∷ is) bs e =
+    let w = accepted-first s look k i is bs e in
+    rw (w .held, held-words s look (suc k) is (w .later) (w .rest)) (ap programWords (w .whole))

@@ -2,8 +2,8 @@
 use Prim.Native.Nat.{ℕ}
 use mathlib.Core.List.{List, [], _∷_, _++_}
 use Rattle.asm.specs.declared.OlaAsmInstruction.{OlaAsmInstruction}
-use Rattle.relocate.specs.declared.LabelEntry.{LabelEntry}
 use Rattle.program.specs.Words.{wordsOf}
+use Rattle.relocate.specs.Columns.{LookUp}
 use Rattle.encoder_canonical.specs.Held.{heldCanonical}
 use Rattle.encoder_canonical.specs.declared.Canonical.{Canonical}
 use Rattle.encoder_canonical.specs.declared.Canonical.the-variants.{Is as Made, Unknown, Misused}
@@ -14,6 +14,6 @@ wordsIf Unknown = []
 wordsIf Misused = []
 
 -- the words of the rows, in order
-unfoldable pub heldWords : List ℕ → List LabelEntry → List OlaAsmInstruction → List ℕ
-heldWords s es [] = []
-heldWords s es (i ∷ is) = wordsIf (heldCanonical s es i) ++ heldWords s es is
+unfoldable pub heldWords : List ℕ → LookUp → List OlaAsmInstruction → List ℕ
+heldWords s look [] = []
+heldWords s look (i ∷ is) = wordsIf (heldCanonical s look i) ++ heldWords s look is

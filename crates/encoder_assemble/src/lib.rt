@@ -12,7 +12,8 @@ ghost use Prim.Native.Nat.{_+_, _≤_};
 ghost use lib.ListN.{length, take};
 ghost use lib.Seq.{sets};
 ghost use Rattle.relocate.specs.Layout.{sortedInstructions};
-ghost use Rattle.relocate.specs.Columns.{entriesOf};
+ghost use Rattle.relocate.specs.Columns.{entriesOf, lookedIn};
+ghost use Rattle.relocate_chains.specs.Chains.{chainedAddress};
 ghost use Rattle.program.specs.Words.{wordsOf};
 ghost use Rattle.text.specs.Answer.{ok};
 ghost use Rattle.relocate.specs.Labels.{tableOf};
@@ -50,13 +51,14 @@ fn write_words(
     starts: &[usize],
     lengths: &[usize],
     addresses: &[u64],
+    chains: &[u16],
     start: usize,
     end: usize,
     words: &mut [u64],
 )
     requires { ⌜ (start ≤ end) × (end ≤ length (now source)) ⌝ }
-    requires { ⌜ length (heldWords (now source) (entriesOf (now kinds) (now mapped) (now starts) (now lengths) (now addresses)) (sortedInstructions (now source) start end)) ≤ length (now words) ⌝ }
-    ensures { λ _. ⌜ now (words .exit) ≡ sets (now (words .entry)) 0 (heldWords (now (source .entry)) (entriesOf (now (kinds .entry)) (now (mapped .entry)) (now (starts .entry)) (now (lengths .entry)) (now (addresses .entry))) (sortedInstructions (now (source .entry)) start end)) ⌝ }
+    requires { ⌜ length (heldWords (now source) (chainedAddress (now source) (entriesOf (now kinds) (now mapped) (now starts) (now lengths) (now addresses)) (now chains)) (sortedInstructions (now source) start end)) ≤ length (now words) ⌝ }
+    ensures { λ _. ⌜ now (words .exit) ≡ sets (now (words .entry)) 0 (heldWords (now (source .entry)) (chainedAddress (now (source .entry)) (entriesOf (now (kinds .entry)) (now (mapped .entry)) (now (starts .entry)) (now (lengths .entry)) (now (addresses .entry))) (now (chains .entry))) (sortedInstructions (now (source .entry)) start end)) ⌝ }
 {
     let mut at: usize = 0;
     let mut written: usize = 0;
@@ -68,6 +70,7 @@ fn write_words(
             starts,
             lengths,
             addresses,
+            chains,
             start,
             end,
             at,
@@ -93,8 +96,72 @@ fn counts(layout: Layout, count: usize, hosts: &[u64]) -> Assembly
     encoder_counts::totals(layout, &hosts[..count])
 }
 
-// Refusals 8 to 13, and else the words and hosts, of a source whose label table is filled and has no more entries.
+// Refusals 8 to 13, and else the words and hosts, of a source whose label table is filled and chained.
 fn encode_filled(
+    source: &[u8],
+    prophets: &[u8],
+    kinds: &[u8],
+    mapped: &[bool],
+    starts: &[usize],
+    lengths: &[usize],
+    addresses: &[u64],
+    chains: &[u16],
+    room: usize,
+    layout: Layout,
+    words: &mut [u64],
+    hosts: &mut [u64],
+) -> Assembly
+    requires { ⌜ measured (now source) room ≡ ok layout ⌝ }
+    requires { ⌜ chainedAddress (now source) (entriesOf (now kinds) (now mapped) (now starts) (now lengths) (now addresses)) (now chains) ≡ lookedIn (now source) (tableOf (layoutRows (now source) layout)) ⌝ }
+    ensures { λ r. ⌜ numbered r ≡ encodedTotals (now (source .entry)) (layoutRows (now (source .entry)) layout) (now (prophets .entry)) (record { entries = room; words = length (now (words .entry)); hosts = length (now (hosts .entry)) }) ⌝ }
+    ensures { λ _. ⌜ now (words .exit) ≡ wordsLeft (encodedRows (now (source .entry)) (layoutRows (now (source .entry)) layout) (now (prophets .entry)) (record { entries = room; words = length (now (words .entry)); hosts = length (now (hosts .entry)) })) (now (words .entry)) ⌝ }
+    ensures { λ _. ⌜ now (hosts .exit) ≡ hostsLeft (encodedRows (now (source .entry)) (layoutRows (now (source .entry)) layout) (now (prophets .entry)) (record { entries = room; words = length (now (words .entry)); hosts = length (now (hosts .entry)) })) (now (hosts .entry)) ⌝ }
+{
+    let found = encoder_checks::check_all(
+        source,
+        prophets,
+        kinds,
+        mapped,
+        starts,
+        lengths,
+        addresses,
+        chains,
+        layout,
+        words.len(),
+        hosts.len(),
+    );
+    let count = match found {
+        Checked::Refused(refusal) => return Assembly::Refused(refusal),
+        Checked::Is(n) => n,
+    };
+    write_words(
+        source,
+        kinds,
+        mapped,
+        starts,
+        lengths,
+        addresses,
+        chains,
+        layout.start,
+        layout.end,
+        words,
+    );
+    relocate_prophets::write_hosts(
+        source,
+        prophets,
+        kinds,
+        mapped,
+        starts,
+        lengths,
+        addresses,
+        chains,
+        hosts,
+    );
+    counts(layout, count, hosts)
+}
+
+// The same of a source whose label table is filled and has no more entries: its chains are made here. 65,536 bytes have 21,845 label rows at most.
+fn encode_chained(
     source: &[u8],
     prophets: &[u8],
     kinds: &[u8],
@@ -113,7 +180,17 @@ fn encode_filled(
     ensures { λ _. ⌜ now (words .exit) ≡ wordsLeft (encodedRows (now (source .entry)) (layoutRows (now (source .entry)) layout) (now (prophets .entry)) (record { entries = room; words = length (now (words .entry)); hosts = length (now (hosts .entry)) })) (now (words .entry)) ⌝ }
     ensures { λ _. ⌜ now (hosts .exit) ≡ hostsLeft (encodedRows (now (source .entry)) (layoutRows (now (source .entry)) layout) (now (prophets .entry)) (record { entries = room; words = length (now (words .entry)); hosts = length (now (hosts .entry)) })) (now (hosts .entry)) ⌝ }
 {
-    let found = encoder_checks::check_all(
+    let mut chains = [0u16; 22870];
+    relocate_chains::chain_names(
+        source,
+        kinds,
+        mapped,
+        starts,
+        lengths,
+        addresses,
+        &mut chains,
+    );
+    encode_filled(
         source,
         prophets,
         kinds,
@@ -121,36 +198,12 @@ fn encode_filled(
         starts,
         lengths,
         addresses,
+        &chains,
+        room,
         layout,
-        words.len(),
-        hosts.len(),
-    );
-    let count = match found {
-        Checked::Refused(refusal) => return Assembly::Refused(refusal),
-        Checked::Is(n) => n,
-    };
-    write_words(
-        source,
-        kinds,
-        mapped,
-        starts,
-        lengths,
-        addresses,
-        layout.start,
-        layout.end,
         words,
-    );
-    relocate_prophets::write_hosts(
-        source,
-        prophets,
-        kinds,
-        mapped,
-        starts,
-        lengths,
-        addresses,
         hosts,
-    );
-    counts(layout, count, hosts)
+    )
 }
 
 // The same, where the table's slices may have more entries than the source has label rows.
@@ -175,7 +228,7 @@ fn encode_table(
     ensures { λ _. ⌜ now (hosts .exit) ≡ hostsLeft (encodedRows (now (source .entry)) (layoutRows (now (source .entry)) layout) (now (prophets .entry)) (record { entries = room; words = length (now (words .entry)); hosts = length (now (hosts .entry)) })) (now (hosts .entry)) ⌝ }
 {
     let n = layout.labels;
-    encode_filled(
+    encode_chained(
         source,
         prophets,
         &kinds[..n],

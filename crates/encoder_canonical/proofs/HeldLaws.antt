@@ -16,6 +16,7 @@ use Rattle.asm.specs.declared.OlaAsmOperand.the-variants.{Empty, ImmediateOpera
 use Rattle.asm.specs.declared.OlaAsmInstruction.{OlaAsmInstruction}
 use Rattle.asm.specs.declared.AsmRow.{AsmRow}
 use Rattle.relocate.specs.Labels.{LabelRow, callKind, jmpKind, addressOf, tableOf}
+use Rattle.relocate.specs.Columns.{lookedIn}
 use Rattle.relocate.proofs.ColumnLaws.{foundBy, held-label}
 use Rattle.program.specs.Instructions.{made}
 use Rattle.program.specs.declared.BinaryInstruction.{BinaryInstruction}
@@ -76,7 +77,7 @@ module _ (s : List ℕ) (rows : List AsmRow) where
     numbered-found (some l) = refl
 
     -- one place
-    numbered-plain : (x : OlaAsmOperand) → resolvedNumbered k (heldPlain s (tableOf rows) x) ≡ plain names k x
+    numbered-plain : (x : OlaAsmOperand) → resolvedNumbered k (heldPlain s (lookedIn s (tableOf rows)) x) ≡ plain names k x
     numbered-plain Empty = refl
     numbered-plain (ImmediateOperand v) = refl
     numbered-plain (RegisterOperand r) = refl
@@ -87,14 +88,14 @@ module _ (s : List ℕ) (rows : List AsmRow) where
     numbered-plain (Identifier start n) = rw (held-label s (nameAt s start n) rows callKind refl) (numbered-found (holderOf names callKind start n))
 
     -- any operation but mload and mstore
-    numbered-general : (i : OlaAsmInstruction) → canonicalNumbered k (heldGeneral s (tableOf rows) i) ≡ general names k i
+    numbered-general : (i : OlaAsmInstruction) → canonicalNumbered k (heldGeneral s (lookedIn s (tableOf rows)) i) ≡ general names k i
     unfolding heldGeneral general
     numbered-general i =
-        numbered-together k (i .opcode) (heldPlain s (tableOf rows) (i .op0)) (heldPlain s (tableOf rows) (i .op1)) (heldPlain s (tableOf rows) (i .dst))
+        numbered-together k (i .opcode) (heldPlain s (lookedIn s (tableOf rows)) (i .op0)) (heldPlain s (lookedIn s (tableOf rows)) (i .op1)) (heldPlain s (lookedIn s (tableOf rows)) (i .dst))
         ∙ rw (numbered-plain (i .op0), numbered-plain (i .op1), numbered-plain (i .dst))
 
     -- a row by its places
-    numbered-by : (p : RowPlaces) (i : OlaAsmInstruction) → canonicalNumbered k (heldBy p s (tableOf rows) i) ≡ canonicalBy p names k i
+    numbered-by : (p : RowPlaces) (i : OlaAsmInstruction) → canonicalNumbered k (heldBy p s (lookedIn s (tableOf rows)) i) ≡ canonicalBy p names k i
     unfolding heldBy canonicalBy
     numbered-by DstOp0Op1 i = numbered-general i
     numbered-by DstOp1 i = numbered-general i
@@ -105,11 +106,11 @@ module _ (s : List ℕ) (rows : List AsmRow) where
     numbered-by Bare i = numbered-general i
 
     -- a row by the table of the sorted rows is the row by the sorted rows, refusals 10 and 11 too
-    pub held-canonical : (i : OlaAsmInstruction) → canonicalNumbered k (heldCanonical s (tableOf rows) i) ≡ canonicalOf names k i
+    pub held-canonical : (i : OlaAsmInstruction) → canonicalNumbered k (heldCanonical s (lookedIn s (tableOf rows)) i) ≡ canonicalOf names k i
     held-canonical i = numbered-by (rowPlaces (i .opcode)) i
 
   -- so is a list of rows
-  pub held-program : (k : ℕ) (is : List OlaAsmInstruction) → heldProgram s (tableOf rows) k is ≡ canonicalFrom names k is
+  pub held-program : (k : ℕ) (is : List OlaAsmInstruction) → heldProgram s (lookedIn s (tableOf rows)) k is ≡ canonicalFrom names k is
   unfolding heldProgram canonicalFrom
   held-program k [] = refl
   held-program k (i ∷ is) = rw (held-canonical k i, held-program (suc k) is)

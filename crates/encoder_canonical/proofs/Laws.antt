@@ -18,11 +18,12 @@ use Rattle.asm.specs.declared.OlaAsmOperand.{OlaAsmOperand}
 use Rattle.asm.specs.declared.OlaAsmOperand.the-variants.{Empty, ImmediateOperand, RegisterOperand, RegisterWithOffset, RegisterWithFactoredRegOffset, SpecialReg, Label, Identifier}
 use Rattle.asm.proofs.OlaAsmOperand.{the-type as operandType}
 use Rattle.asm.specs.declared.OlaAsmInstruction.{OlaAsmInstruction}
-use Rattle.relocate.specs.Columns.{heldAddress}
-use Rattle.relocate.specs.declared.WordAddress.{WordAddress}
+use Rattle.relocate.specs.Columns.{LookUp}
 use Rattle.relocate.specs.declared.LabelEntry.{LabelEntry}
+use Rattle.relocate.specs.declared.WordAddress.{WordAddress}
 use Rattle.relocate.specs.declared.AddressFound.{AddressFound}
 use Rattle.relocate.specs.declared.AddressFound.the-variants.{At, Nothing}
+use Rattle.relocate_chains.specs.Chains.{chainedAddress}
 use Rattle.program.specs.Instructions.{made}
 use Rattle.program.specs.declared.BinaryInstruction.{BinaryInstruction}
 use Rattle.encoder_canonical.specs.Held.{heldNumber, heldPlain, heldGeneral, heldAnchored, heldMemory, heldBy, heldCanonical}
@@ -34,24 +35,24 @@ use Rattle.encoder_canonical.specs.declared.Canonical.the-variants.{Is a
 -- ---- one place
 
 -- a name that a row holds is the number of that row
-pub found-number : (s : List ℕ) (kind : ℕ) (x y : List ℕ) (es : List LabelEntry) (f : AddressFound) (a : WordAddress) (v : ImmediateValue)
-    → y ≡ x → f ≡ heldAddress s kind y es → f ≡ At a → v ≡ record { number = a .0 } → Is (ANumber v) ≡ heldNumber (heldAddress s kind x es)
-found-number s kind x y es f a v e g h k = rw (k, ← e, ← g, h)
+pub found-number : (s : List ℕ) (es : List LabelEntry) (chains : List ℕ) (kind : ℕ) (x y : List ℕ) (f : AddressFound) (a : WordAddress) (v : ImmediateValue)
+    → y ≡ x → f ≡ chainedAddress s es chains kind y → f ≡ At a → v ≡ record { number = a .0 } → Is (ANumber v) ≡ heldNumber (chainedAddress s es chains kind x)
+found-number s es chains kind x y f a v e g h k = rw (k, ← e, ← g, h)
 
 -- a name that no row holds is unknown
-pub found-none : (s : List ℕ) (kind : ℕ) (x y : List ℕ) (es : List LabelEntry) (f : AddressFound)
-    → y ≡ x → f ≡ heldAddress s kind y es → f ≡ Nothing → Unknown ≡ heldNumber (heldAddress s kind x es)
-found-none s kind x y es f e g h = rw (← e, ← g, h)
+pub found-none : (s : List ℕ) (es : List LabelEntry) (chains : List ℕ) (kind : ℕ) (x y : List ℕ) (f : AddressFound)
+    → y ≡ x → f ≡ chainedAddress s es chains kind y → f ≡ Nothing → Unknown ≡ heldNumber (chainedAddress s es chains kind x)
+found-none s es chains kind x y f e g h = rw (← e, ← g, h)
 
 pub ruleset number-laws = (found-number, found-none, needs)
 
-module _ (s : List ℕ) (es : List LabelEntry) where
+module _ (s : List ℕ) (look : LookUp) where
   -- what was found for the operand that a match told was found for the operand that was matched
-  pub told-plain : (x y : OlaAsmOperand) (r : Resolved) → x ≡ y → r ≡ heldPlain s es y → r ≡ heldPlain s es x
-  told-plain x y r e f = f ∙ sym (ap (heldPlain s es) e)
+  pub told-plain : (x y : OlaAsmOperand) (r : Resolved) → x ≡ y → r ≡ heldPlain s look y → r ≡ heldPlain s look x
+  told-plain x y r e f = f ∙ sym (ap (heldPlain s look) e)
 
   -- no operand, brackets and special registers become empty
-  pub empty-plain : (x : OlaAsmOperand) → OneOf (0 ∷ 3 ∷ 4 ∷ 5 ∷ []) (tagOf operandType x) → Is NoContent ≡ heldPlain s es x
+  pub empty-plain : (x : OlaAsmOperand) → OneOf (0 ∷ 3 ∷ 4 ∷ 5 ∷ []) (tagOf operandType x) → Is NoContent ≡ heldPlain s look x
   empty-plain Empty k = refl
   empty-plain (ImmediateOperand v) k = absurd (miss (0 ∷ 3 ∷ 4 ∷ 5 ∷ []) 1 tt k)
   empty-plain (RegisterOperand r) k = absurd (miss (0 ∷ 3 ∷ 4 ∷ 5 ∷ []) 2 tt k)
@@ -63,26 +64,26 @@ module _ (s : List ℕ) (es : List LabelEntry) where
 
   -- ---- each place by itself
 
-  module _ (i : OlaAsmInstruction) (p : Resolved) (e : p ≡ heldPlain s es (i .op0)) where
+  module _ (i : OlaAsmInstruction) (p : Resolved) (e : p ≡ heldPlain s look (i .op0)) where
     -- the first unknown answers
-    pub unknown-op0 : p ≡ Unknown → NameUnknown ≡ heldGeneral s es i
+    pub unknown-op0 : p ≡ Unknown → NameUnknown ≡ heldGeneral s look i
     unfolding heldGeneral
     unknown-op0 h = rw (← e, h)
 
-    module _ (a : OlaOperand) (h : p ≡ Is a) (q : Resolved) (f : q ≡ heldPlain s es (i .op1)) where
+    module _ (a : OlaOperand) (h : p ≡ Is a) (q : Resolved) (f : q ≡ heldPlain s look (i .op1)) where
       -- the same of op1, where op0 is known
-      pub unknown-op1 : q ≡ Unknown → NameUnknown ≡ heldGeneral s es i
+      pub unknown-op1 : q ≡ Unknown → NameUnknown ≡ heldGeneral s look i
       unfolding heldGeneral
       unknown-op1 k = rw (← e, h, ← f, k)
 
-      module _ (b : OlaOperand) (k : q ≡ Is b) (r : Resolved) (g : r ≡ heldPlain s es (i .dst)) where
+      module _ (b : OlaOperand) (k : q ≡ Is b) (r : Resolved) (g : r ≡ heldPlain s look (i .dst)) where
         -- the same of dst, where the others are known
-        pub unknown-dst : r ≡ Unknown → NameUnknown ≡ heldGeneral s es i
+        pub unknown-dst : r ≡ Unknown → NameUnknown ≡ heldGeneral s look i
         unfolding heldGeneral
         unknown-dst l = rw (← e, h, ← f, k, ← g, l)
 
         -- an instruction of three contents
-        pub known-places : (d : OlaOperand) → r ≡ Is d → (w : BinaryInstruction) → w ≡ made (i .opcode) a b d → Made w ≡ heldGeneral s es i
+        pub known-places : (d : OlaOperand) → r ≡ Is d → (w : BinaryInstruction) → w ≡ made (i .opcode) a b d → Made w ≡ heldGeneral s look i
         unfolding heldGeneral
         known-places d l w m = rw (m, ← e, h, ← f, k, ← g, l)
 
@@ -125,24 +126,24 @@ module _ (o : OlaOpcode) where
 
 -- ---- a row by its places
 
-module _ (s : List ℕ) (es : List LabelEntry) where
+module _ (s : List ℕ) (look : LookUp) where
   module _ (i : OlaAsmInstruction) (p : RowPlaces) (f : Canonical) (e : p ≡ rowPlaces (i .opcode)) where
     -- mload's row
-    pub told-load : p ≡ DstMemory → f ≡ heldMemory (i .opcode) (i .op1) (i .dst) → f ≡ heldCanonical s es i
+    pub told-load : p ≡ DstMemory → f ≡ heldMemory (i .opcode) (i .op1) (i .dst) → f ≡ heldCanonical s look i
     unfolding heldBy
     told-load h g = rw (← e, h) g
 
     -- mstore's
-    pub told-store : p ≡ MemoryDst → f ≡ heldMemory (i .opcode) (i .op0) (i .op1) → f ≡ heldCanonical s es i
+    pub told-store : p ≡ MemoryDst → f ≡ heldMemory (i .opcode) (i .op0) (i .op1) → f ≡ heldCanonical s look i
     unfolding heldBy
     told-store h g = rw (← e, h) g
 
     -- any other
-    pub told-general : OneOf (0 ∷ 1 ∷ 4 ∷ 5 ∷ 6 ∷ []) (tagOf placesType p) → f ≡ heldGeneral s es i → f ≡ heldCanonical s es i
+    pub told-general : OneOf (0 ∷ 1 ∷ 4 ∷ 5 ∷ 6 ∷ []) (tagOf placesType p) → f ≡ heldGeneral s look i → f ≡ heldCanonical s look i
     unfolding heldBy
-    told-general k g = g ∙ go p k ∙ ap (λ (p : RowPlaces). heldBy p s es i) e
+    told-general k g = g ∙ go p k ∙ ap (λ (p : RowPlaces). heldBy p s look i) e
       where
-        go : (p : RowPlaces) → OneOf (0 ∷ 1 ∷ 4 ∷ 5 ∷ 6 ∷ []) (tagOf placesType p) → heldGeneral s es i ≡ heldBy p s es i
+        go : (p : RowPlaces) → OneOf (0 ∷ 1 ∷ 4 ∷ 5 ∷ 6 ∷ []) (tagOf placesType p) → heldGeneral s look i ≡ heldBy p s look i
         go DstOp0Op1 k = refl
         go DstOp1 k = refl
         go DstMemory k = absurd (miss (0 ∷ 1 ∷ 4 ∷ 5 ∷ 6 ∷ []) 2 tt k)

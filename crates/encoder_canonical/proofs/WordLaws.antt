@@ -22,8 +22,7 @@ use Rattle.asm.specs.declared.OlaAsmOperand.{OlaAsmOperand}
 use Rattle.asm.specs.declared.OlaAsmOperand.the-variants.{Empty, ImmediateOperand, RegisterOperand, RegisterWithOffset, RegisterWithFactoredRegOffset, SpecialReg, Label, Identifier}
 use Rattle.asm.specs.declared.OlaAsmInstruction.{OlaAsmInstruction}
 use Rattle.relocate.specs.Labels.{callKind, jmpKind}
-use Rattle.relocate.specs.Columns.{heldAddress}
-use Rattle.relocate.specs.declared.LabelEntry.{LabelEntry}
+use Rattle.relocate.specs.Columns.{LookUp}
 use Rattle.relocate.specs.declared.AddressFound.{AddressFound}
 use Rattle.relocate.specs.declared.AddressFound.the-variants.{At, Nothing}
 use Rattle.program.specs.Instructions.{made, isNumber, carried}
@@ -97,33 +96,33 @@ numbered-made k Misused b e = absurd (not-ok e)
 
 -- the words of rows, one by one
 
-module _ (s : List ℕ) (es : List LabelEntry) where
+module _ (s : List ℕ) (look : LookUp) where
   -- what is looked up becomes a number
   number-carries : (found : AddressFound) → CarriesIf true (heldNumber found)
   number-carries (At a) = (refl, refl)
   number-carries Nothing = tt
 
   -- a place is a number where the row has a number, name or label there
-  plain-carries : (x : OlaAsmOperand) → CarriesIf (takesWord x) (heldPlain s es x)
+  plain-carries : (x : OlaAsmOperand) → CarriesIf (takesWord x) (heldPlain s look x)
   plain-carries Empty = (refl, refl)
   plain-carries (ImmediateOperand v) = (refl, refl)
   plain-carries (RegisterOperand r) = (refl, refl)
   plain-carries (RegisterWithOffset r v) = (refl, refl)
   plain-carries (RegisterWithFactoredRegOffset r t v) = (refl, refl)
   plain-carries (SpecialReg t) = (refl, refl)
-  plain-carries (Label start n) = number-carries (heldAddress s jmpKind (nameAt s start n) es)
-  plain-carries (Identifier start n) = number-carries (heldAddress s callKind (nameAt s start n) es)
+  plain-carries (Label start n) = number-carries (look jmpKind (nameAt s start n))
+  plain-carries (Identifier start n) = number-carries (look callKind (nameAt s start n))
 
   -- any operation but mload and mstore has two words where op1 is a number, name or label
-  general-words : (i : OlaAsmInstruction) → HasWords (cond (takesWord (i .op1)) 2 1) (heldGeneral s es i)
+  general-words : (i : OlaAsmInstruction) → HasWords (cond (takesWord (i .op1)) 2 1) (heldGeneral s look i)
   unfolding heldGeneral
   general-words i =
-      together-words (i .opcode) (heldPlain s es (i .op0)) (heldPlain s es (i .op1)) (heldPlain s es (i .dst))
+      together-words (i .opcode) (heldPlain s look (i .op0)) (heldPlain s look (i .op1)) (heldPlain s look (i .dst))
       (takesWord (i .op0)) (takesWord (i .op1)) (takesWord (i .dst))
       (plain-carries (i .op0)) (plain-carries (i .op1)) (plain-carries (i .dst))
 
   -- a row by its places
-  by-words : (p : RowPlaces) (i : OlaAsmInstruction) → HasWords (cond (isMemoryRow p || takesWord (i .op1)) 2 1) (heldBy p s es i)
+  by-words : (p : RowPlaces) (i : OlaAsmInstruction) → HasWords (cond (isMemoryRow p || takesWord (i .op1)) 2 1) (heldBy p s look i)
   unfolding heldBy
   by-words DstOp0Op1 i = general-words i
   by-words DstOp1 i = general-words i
@@ -134,28 +133,28 @@ module _ (s : List ℕ) (es : List LabelEntry) where
   by-words Bare i = general-words i
 
   -- a canonical instruction with no number in op0 and dst has as many words as are counted for its row
-  pub held-words : (i : OlaAsmInstruction) (b : BinaryInstruction) → heldCanonical s es i ≡ Made b → isNumber (b .op0) ≡ false → isNumber (b .dst) ≡ false
+  pub held-words : (i : OlaAsmInstruction) (b : BinaryInstruction) → heldCanonical s look i ≡ Made b → isNumber (b .op0) ≡ false → isNumber (b .dst) ≡ false
       → length (wordsOf b) ≡ wordCount i
   held-words i b h = subst (HasWords (wordCount i)) h (by-words (rowPlaces (i .opcode)) i)
 
   -- ---- a program
 
-  placed-words : (k : ℕ) (is : List OlaAsmInstruction) (bs : List BinaryInstruction) → heldProgram s es k is ≡ ok bs → All WellPlaced bs
+  placed-words : (k : ℕ) (is : List OlaAsmInstruction) (bs : List BinaryInstruction) → heldProgram s look k is ≡ ok bs → All WellPlaced bs
       → length (programWords bs) ≡ total (map wordCount is)
   unfolding heldProgram programWords total
   placed-words k [] bs e w = rw (← ok-same e)
   placed-words k (i ∷ is) bs e w =
-      let x = ok-bind (canonicalNumbered k (heldCanonical s es i)) _ bs e in
-      let y = ok-bind (heldProgram s es (suc k) is) _ bs (x .2) in
+      let x = ok-bind (canonicalNumbered k (heldCanonical s look i)) _ bs e in
+      let y = ok-bind (heldProgram s look (suc k) is) _ bs (x .2) in
       let v : All WellPlaced (x .0 ∷ y .0) = subst (All WellPlaced) (sym (ok-same (y .2))) w in
       rw (← ok-same (y .2)) (go (x .0) (y .0) (numbered-made k _ (x .0) (x .1)) (placed-words (suc k) is (y .0) (y .1)) v)
     where
-      go : (b : BinaryInstruction) (cs : List BinaryInstruction) → heldCanonical s es i ≡ Made b
+      go : (b : BinaryInstruction) (cs : List BinaryInstruction) → heldCanonical s look i ≡ Made b
           → (All WellPlaced cs → length (programWords cs) ≡ total (map wordCount is))
           → All WellPlaced (b ∷ cs) → length (programWords (b ∷ cs)) ≡ total (map wordCount (i ∷ is))
       go b cs m f (one-more p ps) = length-append (wordsOf b) (programWords cs) ∙ ap₂ _+_ (held-words i b m (p .op0) (p .dst)) (f ps)
 
   -- a program that refusals 10 to 12 let pass has as many words as are counted for its rows
-  pub program-words : (k j : ℕ) (is : List OlaAsmInstruction) (bs : List BinaryInstruction) → heldProgram s es k is ≡ ok bs → firstMisplaced j bs ≡ none
+  pub program-words : (k j : ℕ) (is : List OlaAsmInstruction) (bs : List BinaryInstruction) → heldProgram s look k is ≡ ok bs → firstMisplaced j bs ≡ none
       → length (programWords bs) ≡ total (map wordCount is)
   program-words k j is bs e m = placed-words k is bs e (well-placed j bs m)

@@ -13,8 +13,7 @@ use Rattle.asm.specs.declared.OlaAsmOperand.{OlaAsmOperand}
 use Rattle.asm.specs.declared.OlaAsmOperand.the-variants.{Empty, ImmediateOperand, RegisterOperand, RegisterWithOffset, RegisterWithFactoredRegOffset, SpecialReg, Label, Identifier}
 use Rattle.asm.specs.declared.OlaAsmInstruction.{OlaAsmInstruction}
 use Rattle.relocate.specs.Labels.{callKind, jmpKind}
-use Rattle.relocate.specs.Columns.{heldAddress}
-use Rattle.relocate.specs.declared.LabelEntry.{LabelEntry}
+use Rattle.relocate.specs.Columns.{LookUp}
 use Rattle.relocate.specs.declared.AddressFound.{AddressFound}
 use Rattle.relocate.specs.declared.AddressFound.the-variants.{At, Nothing}
 use Rattle.program.specs.Instructions.{made, aNumber}
@@ -33,15 +32,15 @@ heldNumber Nothing = Unknown
 
 -- a place of any operation but mload and mstore: "pc, psp and brackets outside mload and mstore become empty; Label operands look only
 -- at `.LBL` rows, names only at call rows"
-abbrev pub heldPlain : List ℕ → List LabelEntry → OlaAsmOperand → Resolved
-heldPlain s es Empty = Is NoContent
-heldPlain s es (ImmediateOperand v) = Is (ANumber v)
-heldPlain s es (RegisterOperand r) = Is (ARegister r)
-heldPlain s es (RegisterWithOffset r v) = Is NoContent
-heldPlain s es (RegisterWithFactoredRegOffset r t v) = Is NoContent
-heldPlain s es (SpecialReg t) = Is NoContent
-heldPlain s es (Label start n) = heldNumber (heldAddress s jmpKind (nameAt s start n) es)
-heldPlain s es (Identifier start n) = heldNumber (heldAddress s callKind (nameAt s start n) es)
+abbrev pub heldPlain : List ℕ → LookUp → OlaAsmOperand → Resolved
+heldPlain s look Empty = Is NoContent
+heldPlain s look (ImmediateOperand v) = Is (ANumber v)
+heldPlain s look (RegisterOperand r) = Is (ARegister r)
+heldPlain s look (RegisterWithOffset r v) = Is NoContent
+heldPlain s look (RegisterWithFactoredRegOffset r t v) = Is NoContent
+heldPlain s look (SpecialReg t) = Is NoContent
+heldPlain s look (Label start n) = heldNumber (look jmpKind (nameAt s start n))
+heldPlain s look (Identifier start n) = heldNumber (look callKind (nameAt s start n))
 
 -- ---- one row
 
@@ -52,8 +51,8 @@ together o (Is op0) (Is op1) Unknown = NameUnknown
 together o (Is op0) Unknown dst = NameUnknown
 together o Unknown op1 dst = NameUnknown
 
-unfoldable pub heldGeneral : List ℕ → List LabelEntry → OlaAsmInstruction → Canonical
-heldGeneral s es i = together (i .opcode) (heldPlain s es (i .op0)) (heldPlain s es (i .op1)) (heldPlain s es (i .dst))
+unfoldable pub heldGeneral : List ℕ → LookUp → OlaAsmInstruction → Canonical
+heldGeneral s look i = together (i .opcode) (heldPlain s look (i .op0)) (heldPlain s look (i .op1)) (heldPlain s look (i .dst))
 
 -- "For mload and mstore op0 is the anchor, op1 the offset number or register with factor, dst the value register"
 abbrev pub heldAnchored : OlaOpcode → OlaAsmOperand → OlaOperand → Canonical
@@ -78,18 +77,18 @@ heldMemory o bracketed (Label start n) = Misused
 heldMemory o bracketed (Identifier start n) = Misused
 
 -- "mload and mstore look nothing up": mload's memory operand stands in op1 of the row, mstore's in op0
-unfoldable pub heldBy : RowPlaces → List ℕ → List LabelEntry → OlaAsmInstruction → Canonical
-heldBy DstOp0Op1 s es i = heldGeneral s es i
-heldBy DstOp1 s es i = heldGeneral s es i
-heldBy DstMemory s es i = heldMemory (i .opcode) (i .op1) (i .dst)
-heldBy MemoryDst s es i = heldMemory (i .opcode) (i .op0) (i .op1)
-heldBy Op0Op1 s es i = heldGeneral s es i
-heldBy Op1 s es i = heldGeneral s es i
-heldBy Bare s es i = heldGeneral s es i
+unfoldable pub heldBy : RowPlaces → List ℕ → LookUp → OlaAsmInstruction → Canonical
+heldBy DstOp0Op1 s look i = heldGeneral s look i
+heldBy DstOp1 s look i = heldGeneral s look i
+heldBy DstMemory s look i = heldMemory (i .opcode) (i .op1) (i .dst)
+heldBy MemoryDst s look i = heldMemory (i .opcode) (i .op0) (i .op1)
+heldBy Op0Op1 s look i = heldGeneral s look i
+heldBy Op1 s look i = heldGeneral s look i
+heldBy Bare s look i = heldGeneral s look i
 
 -- the canonical instruction of an instruction row
-abbrev pub heldCanonical : List ℕ → List LabelEntry → OlaAsmInstruction → Canonical
-heldCanonical s es i = heldBy (rowPlaces (i .opcode)) s es i
+abbrev pub heldCanonical : List ℕ → LookUp → OlaAsmInstruction → Canonical
+heldCanonical s look i = heldBy (rowPlaces (i .opcode)) s look i
 
 -- ---- the rows of a source
 
@@ -100,6 +99,6 @@ canonicalNumbered k NameUnknown = refused 10 k
 canonicalNumbered k Misused = refused 11 k
 
 -- 10 or 11, "whichever instruction comes first", where k instructions stand ahead
-unfoldable pub heldProgram : List ℕ → List LabelEntry → ℕ → List OlaAsmInstruction → Answer (List BinaryInstruction)
-heldProgram s es k [] = ok []
-heldProgram s es k (i ∷ is) = canonicalNumbered k (heldCanonical s es i) >>= λ b. heldProgram s es (suc k) is >>= λ bs. ok (b ∷ bs)
+unfoldable pub heldProgram : List ℕ → LookUp → ℕ → List OlaAsmInstruction → Answer (List BinaryInstruction)
+heldProgram s look k [] = ok []
+heldProgram s look k (i ∷ is) = canonicalNumbered k (heldCanonical s look i) >>= λ b. heldProgram s look (suc k) is >>= λ bs. ok (b ∷ bs)

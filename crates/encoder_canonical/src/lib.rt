@@ -1,5 +1,5 @@
-// The canonical instruction of a row, its names looked up in the label table: assembler/src/encoder.rs. The table's five columns are lent one
-// by one.
+// The canonical instruction of a row, its names looked up in the label table: assembler/src/encoder.rs. The table's five columns and its chains are
+// lent one by one.
 use asm::OlaAsmInstruction;
 use asm::OlaAsmOperand;
 use program::BinaryInstruction;
@@ -10,7 +10,8 @@ use vm_operands::ImmediateValue;
 use vm_operands::OlaOperand;
 ghost use mathlib.Core.Path.{_≡_};
 ghost use Rattle.asm.specs.Parts.{nameAt};
-ghost use Rattle.relocate.specs.Columns.{entriesOf, heldAddress};
+ghost use Rattle.relocate.specs.Columns.{entriesOf};
+ghost use Rattle.relocate_chains.specs.Chains.{chainedAddress};
 ghost use Rattle.encoder_canonical.specs.Held.{heldNumber, heldPlain, heldGeneral, heldAnchored, heldMemory, heldCanonical};
 
 // What a place of a row becomes, or that no mapped row holds the name in it.
@@ -36,20 +37,22 @@ fn look_up(
     starts: &[usize],
     lengths: &[usize],
     addresses: &[u64],
+    chains: &[u16],
     kind: u8,
     start: usize,
     length: usize,
 ) -> Resolved
-    ensures { λ r. ⌜ r ≡ heldNumber (heldAddress (now (source .entry)) kind (nameAt (now (source .entry)) start length) (entriesOf (now (kinds .entry)) (now (mapped .entry)) (now (starts .entry)) (now (lengths .entry)) (now (addresses .entry)))) ⌝ }
+    ensures { λ r. ⌜ r ≡ heldNumber (chainedAddress (now (source .entry)) (entriesOf (now (kinds .entry)) (now (mapped .entry)) (now (starts .entry)) (now (lengths .entry)) (now (addresses .entry))) (now (chains .entry)) kind (nameAt (now (source .entry)) start length)) ⌝ }
 {
     let name = relocate_names::name_at(source, start, length);
-    let found = relocate_names::held_address(
+    let found = relocate_chains::chained_address(
         source,
         kinds,
         mapped,
         starts,
         lengths,
         addresses,
+        chains,
         kind,
         name,
     );
@@ -69,9 +72,10 @@ fn plain(
     starts: &[usize],
     lengths: &[usize],
     addresses: &[u64],
+    chains: &[u16],
     operand: OlaAsmOperand,
 ) -> Resolved
-    ensures { λ r. ⌜ r ≡ heldPlain (now (source .entry)) (entriesOf (now (kinds .entry)) (now (mapped .entry)) (now (starts .entry)) (now (lengths .entry)) (now (addresses .entry))) operand ⌝ }
+    ensures { λ r. ⌜ r ≡ heldPlain (now (source .entry)) (chainedAddress (now (source .entry)) (entriesOf (now (kinds .entry)) (now (mapped .entry)) (now (starts .entry)) (now (lengths .entry)) (now (addresses .entry))) (now (chains .entry))) operand ⌝ }
 {
     match operand {
         OlaAsmOperand::ImmediateOperand { value } => {
@@ -83,11 +87,33 @@ fn plain(
         OlaAsmOperand::Label {
             start: at,
             length: n,
-        } => look_up(source, kinds, mapped, starts, lengths, addresses, 1, at, n),
+        } => look_up(
+            source,
+            kinds,
+            mapped,
+            starts,
+            lengths,
+            addresses,
+            chains,
+            1,
+            at,
+            n,
+        ),
         OlaAsmOperand::Identifier {
             start: at,
             length: n,
-        } => look_up(source, kinds, mapped, starts, lengths, addresses, 0, at, n),
+        } => look_up(
+            source,
+            kinds,
+            mapped,
+            starts,
+            lengths,
+            addresses,
+            chains,
+            0,
+            at,
+            n,
+        ),
         _ => Resolved::Is(OlaOperand::Empty),
     }
 }
@@ -100,20 +126,24 @@ fn general(
     starts: &[usize],
     lengths: &[usize],
     addresses: &[u64],
+    chains: &[u16],
     instruction: OlaAsmInstruction,
 ) -> Canonical
-    ensures { λ r. ⌜ r ≡ heldGeneral (now (source .entry)) (entriesOf (now (kinds .entry)) (now (mapped .entry)) (now (starts .entry)) (now (lengths .entry)) (now (addresses .entry))) instruction ⌝ }
+    ensures { λ r. ⌜ r ≡ heldGeneral (now (source .entry)) (chainedAddress (now (source .entry)) (entriesOf (now (kinds .entry)) (now (mapped .entry)) (now (starts .entry)) (now (lengths .entry)) (now (addresses .entry))) (now (chains .entry))) instruction ⌝ }
 {
     let a = instruction.op0;
-    let Resolved::Is(op0) = plain(source, kinds, mapped, starts, lengths, addresses, a) else {
+    let Resolved::Is(op0) = plain(source, kinds, mapped, starts, lengths, addresses, chains, a)
+    else {
         return Canonical::Unknown;
     };
     let b = instruction.op1;
-    let Resolved::Is(op1) = plain(source, kinds, mapped, starts, lengths, addresses, b) else {
+    let Resolved::Is(op1) = plain(source, kinds, mapped, starts, lengths, addresses, chains, b)
+    else {
         return Canonical::Unknown;
     };
     let d = instruction.dst;
-    let Resolved::Is(dst) = plain(source, kinds, mapped, starts, lengths, addresses, d) else {
+    let Resolved::Is(dst) = plain(source, kinds, mapped, starts, lengths, addresses, chains, d)
+    else {
         return Canonical::Unknown;
     };
     let opcode = instruction.opcode;
@@ -166,9 +196,10 @@ pub fn canonical_of(
     starts: &[usize],
     lengths: &[usize],
     addresses: &[u64],
+    chains: &[u16],
     instruction: OlaAsmInstruction,
 ) -> Canonical
-    ensures { λ r. ⌜ r ≡ heldCanonical (now (source .entry)) (entriesOf (now (kinds .entry)) (now (mapped .entry)) (now (starts .entry)) (now (lengths .entry)) (now (addresses .entry))) instruction ⌝ }
+    ensures { λ r. ⌜ r ≡ heldCanonical (now (source .entry)) (chainedAddress (now (source .entry)) (entriesOf (now (kinds .entry)) (now (mapped .entry)) (now (starts .entry)) (now (lengths .entry)) (now (addresses .entry))) (now (chains .entry))) instruction ⌝ }
 {
     let opcode = instruction.opcode;
     let op0 = instruction.op0;
@@ -184,6 +215,7 @@ pub fn canonical_of(
             starts,
             lengths,
             addresses,
+            chains,
             instruction,
         ),
     }

@@ -18,8 +18,7 @@ use Rattle.asm.specs.declared.PlaceFound.the-variants.{At, Nothing}
 use Rattle.relocate.specs.Labels.{labelRows}
 use Rattle.relocate.specs.Relocate.{hostsOf}
 use Rattle.relocate.specs.Layout.{sortedInstructions}
-use Rattle.relocate.specs.Columns.{heldHosts, hostCount, listedNumbered}
-use Rattle.relocate.specs.declared.LabelEntry.{LabelEntry}
+use Rattle.relocate.specs.Columns.{LookUp, heldHosts, hostCount, listedNumbered}
 use Rattle.relocate.specs.declared.Layout.{Layout}
 use Rattle.relocate.specs.declared.ProphetsListed.{ProphetsListed}
 use Rattle.relocate.specs.declared.ProphetsListed.the-variants.{Is as IsListed, Refused as NotListed}
@@ -39,34 +38,34 @@ use Rattle.encoder_checks.specs.declared.Checked.the-variants.{Is, Refus
 
 -- ---- 10 to 13, one law for each way out
 
-module _ (s : List ℕ) (es : List LabelEntry) (l : Layout) (wordroom hostroom hosts : ℕ) (r : Resolution) (e : resolutionNumbered r ≡ heldCount s es (sortedInstructions s (l .start) (l .end))) where
-  pub rows-unresolved : (f : AssembleRefusal) → r ≡ NotResolved f → checkedNumbered (Refused f) ≡ rowsChecked s es l wordroom hostroom hosts
+module _ (s : List ℕ) (look : LookUp) (l : Layout) (wordroom hostroom hosts : ℕ) (r : Resolution) (e : resolutionNumbered r ≡ heldCount s look (sortedInstructions s (l .start) (l .end))) where
+  pub rows-unresolved : (f : AssembleRefusal) → r ≡ NotResolved f → checkedNumbered (Refused f) ≡ rowsChecked s look l wordroom hostroom hosts
   unfolding rowsChecked _>>=_
   rows-unresolved f g = rw (sym e, g)
 
-  module _ (n : ℕ) (g : r ≡ IsResolved n) (p : PlaceFound) (h : p ≡ heldMisplaced s es 0 (sortedInstructions s (l .start) (l .end))) where
-    placed-rest : rowsChecked s es l wordroom hostroom hosts ≡ (refuseAt (placeOption p) 12 >> (refuseIf (ltb wordroom (l .words) || ltb hostroom hosts) 13 >> ok hosts))
+  module _ (n : ℕ) (g : r ≡ IsResolved n) (p : PlaceFound) (h : p ≡ heldMisplaced s look 0 (sortedInstructions s (l .start) (l .end))) where
+    placed-rest : rowsChecked s look l wordroom hostroom hosts ≡ (refuseAt (placeOption p) 12 >> (refuseIf (ltb wordroom (l .words) || ltb hostroom hosts) 13 >> ok hosts))
     unfolding rowsChecked _>>=_
     placed-rest = rw (sym e, g, h)
 
-    pub rows-misplaced : (k : ℕ) (x : RowCount) → p ≡ At k → x ≡ record { 0 = k } → checkedNumbered (Refused (NumberMisplaced x)) ≡ rowsChecked s es l wordroom hostroom hosts
+    pub rows-misplaced : (k : ℕ) (x : RowCount) → p ≡ At k → x ≡ record { 0 = k } → checkedNumbered (Refused (NumberMisplaced x)) ≡ rowsChecked s look l wordroom hostroom hosts
     unfolding _>>_ refuseAt
     rows-misplaced k x i j = ap (λ (y : RowCount). refused 12 (y .0)) j ∙ sym (placed-rest ∙ rw i)
 
     module _ (i : p ≡ Nothing) where
-      roomed : rowsChecked s es l wordroom hostroom hosts ≡ (refuseIf (ltb wordroom (l .words) || ltb hostroom hosts) 13 >> ok hosts)
+      roomed : rowsChecked s look l wordroom hostroom hosts ≡ (refuseIf (ltb wordroom (l .words) || ltb hostroom hosts) 13 >> ok hosts)
       unfolding _>>_ refuseAt
       roomed = placed-rest ∙ rw i
 
-      pub rows-words : wordroom < l .words → checkedNumbered (Refused RoomTooShort) ≡ rowsChecked s es l wordroom hostroom hosts
+      pub rows-words : wordroom < l .words → checkedNumbered (Refused RoomTooShort) ≡ rowsChecked s look l wordroom hostroom hosts
       unfolding _>>_ refuseIf
       rows-words j = sym (roomed ∙ rw (lt-ltb wordroom (l .words) j))
 
-      pub rows-hosts : l .words ≤ wordroom → hostroom < hosts → checkedNumbered (Refused RoomTooShort) ≡ rowsChecked s es l wordroom hostroom hosts
+      pub rows-hosts : l .words ≤ wordroom → hostroom < hosts → checkedNumbered (Refused RoomTooShort) ≡ rowsChecked s look l wordroom hostroom hosts
       unfolding _>>_ refuseIf
       rows-hosts j k = sym (roomed ∙ rw (le-ltb wordroom (l .words) j, lt-ltb hostroom hosts k))
 
-      pub rows-pass : l .words ≤ wordroom → hosts ≤ hostroom → checkedNumbered (Is hosts) ≡ rowsChecked s es l wordroom hostroom hosts
+      pub rows-pass : l .words ≤ wordroom → hosts ≤ hostroom → checkedNumbered (Is hosts) ≡ rowsChecked s look l wordroom hostroom hosts
       unfolding _>>_ refuseIf
       rows-pass j k = sym (roomed ∙ rw (le-ltb wordroom (l .words) j, le-ltb hostroom hosts k))
 
@@ -74,14 +73,14 @@ pub ruleset rows-laws = (rows-unresolved, rows-misplaced, rows-words, rows-hosts
 
 -- ---- 8 and 9 before them
 
-module _ (s list : List ℕ) (es : List LabelEntry) (l : Layout) (wordroom hostroom : ℕ) (x : ProphetsListed) (e : listedNumbered x ≡ hostCount (heldHosts s es list)) where
-  pub list-refused : (f : RelocateRefusal) → x ≡ NotListed f → checkedNumbered (Refused (Relocate f)) ≡ checkedOf s list es l wordroom hostroom
+module _ (s list : List ℕ) (look : LookUp) (l : Layout) (wordroom hostroom : ℕ) (x : ProphetsListed) (e : listedNumbered x ≡ hostCount (heldHosts look list)) where
+  pub list-refused : (f : RelocateRefusal) → x ≡ NotListed f → checkedNumbered (Refused (Relocate f)) ≡ checkedOf s list look l wordroom hostroom
   unfolding checkedOf _>>=_
-  list-refused f g = sym (ap (λ (y : Answer ℕ). y >>= rowsChecked s es l wordroom hostroom) (sym e ∙ ap listedNumbered g))
+  list-refused f g = sym (ap (λ (y : Answer ℕ). y >>= rowsChecked s look l wordroom hostroom) (sym e ∙ ap listedNumbered g))
 
-  pub list-passed : (n : ℕ) (r : Checked) → x ≡ IsListed n → checkedNumbered r ≡ rowsChecked s es l wordroom hostroom n → checkedNumbered r ≡ checkedOf s list es l wordroom hostroom
+  pub list-passed : (n : ℕ) (r : Checked) → x ≡ IsListed n → checkedNumbered r ≡ rowsChecked s look l wordroom hostroom n → checkedNumbered r ≡ checkedOf s list look l wordroom hostroom
   unfolding checkedOf _>>=_
-  list-passed n r g h = h ∙ sym (ap (λ (y : Answer ℕ). y >>= rowsChecked s es l wordroom hostroom) (sym e ∙ ap listedNumbered g))
+  list-passed n r g h = h ∙ sym (ap (λ (y : Answer ℕ). y >>= rowsChecked s look l wordroom hostroom) (sym e ∙ ap listedNumbered g))
 
 pub ruleset list-laws = (list-refused, list-passed, needs)
 
@@ -91,20 +90,20 @@ pub ruleset list-laws = (list-refused, list-passed, needs)
 abbrev pub hostsIn : Answer Accepted → Answer ℕ
 hostsIn x = x >>= λ a. ok (length (a .hosts))
 
-module _ (s list : List ℕ) (rows : List AsmRow) (es : List LabelEntry) (l : Layout) (room : Room)
-    (hosts : heldHosts s es list ≡ hostsOf s rows list)
-    (count : heldCount s es (sortedInstructions s (l .start) (l .end)) ≡ (canonicalProgram s rows >>= λ bs. ok (length bs)))
-    (placed : (bs : List BinaryInstruction) → canonicalProgram s rows ≡ ok bs → placeOption (heldMisplaced s es 0 (sortedInstructions s (l .start) (l .end))) ≡ firstMisplaced 0 bs)
+module _ (s list : List ℕ) (rows : List AsmRow) (look : LookUp) (l : Layout) (room : Room)
+    (hosts : heldHosts look list ≡ hostsOf s rows list)
+    (count : heldCount s look (sortedInstructions s (l .start) (l .end)) ≡ (canonicalProgram s rows >>= λ bs. ok (length bs)))
+    (placed : (bs : List BinaryInstruction) → canonicalProgram s rows ≡ ok bs → placeOption (heldMisplaced s look 0 (sortedInstructions s (l .start) (l .end))) ≡ firstMisplaced 0 bs)
     (words : (bs : List BinaryInstruction) → canonicalProgram s rows ≡ ok bs → firstMisplaced 0 bs ≡ none → length (programWords bs) ≡ l .words) where
-  pub stages-together : checkedOf s list es l (room .words) (room .hosts) ≡ hostsIn (encodedRows s rows list room)
+  pub stages-together : checkedOf s list look l (room .words) (room .hosts) ≡ hostsIn (encodedRows s rows list room)
   unfolding checkedOf rowsChecked encodedRows _>>=_ _>>_ refuseAt refuseIf
   stages-together =
-      ap (λ (x : Answer (List ℕ)). hostCount x >>= λ h. stage h (heldCount s es (sortedInstructions s (l .start) (l .end)))) hosts
+      ap (λ (x : Answer (List ℕ)). hostCount x >>= λ h. stage h (heldCount s look (sortedInstructions s (l .start) (l .end)))) hosts
       ∙ ap (λ (c : Answer ℕ). hostCount (hostsOf s rows list) >>= λ h. stage h c) count
       ∙ go (hostsOf s rows list) (canonicalProgram s rows) refl
     where
       m : Option ℕ
-      m = placeOption (heldMisplaced s es 0 (sortedInstructions s (l .start) (l .end)))
+      m = placeOption (heldMisplaced s look 0 (sortedInstructions s (l .start) (l .end)))
 
       stage : ℕ → Answer ℕ → Answer ℕ
       stage h c = c >>= λ n. (refuseAt m 12 >> (refuseIf (ltb (room .words) (l .words) || ltb (room .hosts) h) 13 >> ok h))

@@ -8,8 +8,7 @@ use Rattle.text.specs.Answer.{Answer, ok, refused, _>>=_, _>>_, refuseIf, refus
 use Rattle.asm.specs.declared.PlaceFound.{PlaceFound}
 use Rattle.asm.specs.declared.PlaceFound.the-variants.{At, Nothing}
 use Rattle.relocate.specs.Layout.{sortedInstructions}
-use Rattle.relocate.specs.Columns.{heldHosts, hostCount}
-use Rattle.relocate.specs.declared.LabelEntry.{LabelEntry}
+use Rattle.relocate.specs.Columns.{LookUp, heldHosts, hostCount}
 use Rattle.relocate.specs.declared.Layout.{Layout}
 use Rattle.encoder.specs.Assemble.{assembleNumber, assembleDetail}
 use Rattle.encoder_walks.specs.Walks.{heldCount, heldMisplaced}
@@ -25,13 +24,13 @@ checkedNumbered (Is n) = ok n
 checkedNumbered (Refused f) = refused (assembleNumber f) (assembleDetail f)
 
 -- 10 and 11, 12, 13, where so many prophets are listed
-unfoldable pub rowsChecked : List ℕ → List LabelEntry → Layout → ℕ → ℕ → ℕ → Answer ℕ
-rowsChecked s es l wordroom hostroom hosts = do
-  n ← heldCount s es (sortedInstructions s (l .start) (l .end))
-  refuseAt (placeOption (heldMisplaced s es 0 (sortedInstructions s (l .start) (l .end)))) 12
+unfoldable pub rowsChecked : List ℕ → LookUp → Layout → ℕ → ℕ → ℕ → Answer ℕ
+rowsChecked s look l wordroom hostroom hosts = do
+  n ← heldCount s look (sortedInstructions s (l .start) (l .end))
+  refuseAt (placeOption (heldMisplaced s look 0 (sortedInstructions s (l .start) (l .end)))) 12
   refuseIf (ltb wordroom (l .words) || ltb hostroom hosts) 13
   ok hosts
 
 -- 8 and 9 before them, or how many prophets are listed
-unfoldable pub checkedOf : List ℕ → List ℕ → List LabelEntry → Layout → ℕ → ℕ → Answer ℕ
-checkedOf s list es l wordroom hostroom = hostCount (heldHosts s es list) >>= rowsChecked s es l wordroom hostroom
+unfoldable pub checkedOf : List ℕ → List ℕ → LookUp → Layout → ℕ → ℕ → Answer ℕ
+checkedOf s list look l wordroom hostroom = hostCount (heldHosts look list) >>= rowsChecked s look l wordroom hostroom

@@ -7,6 +7,7 @@ use relocate::Layout;
 use relocate::ProphetsListed;
 ghost use mathlib.Core.Path.{_≡_};
 ghost use Rattle.relocate.specs.Columns.{entriesOf};
+ghost use Rattle.relocate_chains.specs.Chains.{chainedAddress};
 ghost use Rattle.encoder_checks.specs.Checked.{checkedNumbered, rowsChecked, checkedOf};
 
 // How many prophets are listed, where refusals 8 to 13 turn nothing away.
@@ -23,12 +24,13 @@ fn check_rows(
     starts: &[usize],
     lengths: &[usize],
     addresses: &[u64],
+    chains: &[u16],
     layout: Layout,
     wordroom: usize,
     hostroom: usize,
     hosts: usize,
 ) -> Checked
-    ensures { λ r. ⌜ checkedNumbered r ≡ rowsChecked (now (source .entry)) (entriesOf (now (kinds .entry)) (now (mapped .entry)) (now (starts .entry)) (now (lengths .entry)) (now (addresses .entry))) layout wordroom hostroom hosts ⌝ }
+    ensures { λ r. ⌜ checkedNumbered r ≡ rowsChecked (now (source .entry)) (chainedAddress (now (source .entry)) (entriesOf (now (kinds .entry)) (now (mapped .entry)) (now (starts .entry)) (now (lengths .entry)) (now (addresses .entry))) (now (chains .entry))) layout wordroom hostroom hosts ⌝ }
 {
     let start = layout.start;
     let end = layout.end;
@@ -39,6 +41,7 @@ fn check_rows(
         starts,
         lengths,
         addresses,
+        chains,
         start,
         end,
     );
@@ -53,6 +56,7 @@ fn check_rows(
         starts,
         lengths,
         addresses,
+        chains,
         start,
         end,
     );
@@ -80,11 +84,12 @@ pub fn check_all(
     starts: &[usize],
     lengths: &[usize],
     addresses: &[u64],
+    chains: &[u16],
     layout: Layout,
     wordroom: usize,
     hostroom: usize,
 ) -> Checked
-    ensures { λ r. ⌜ checkedNumbered r ≡ checkedOf (now (source .entry)) (now (prophets .entry)) (entriesOf (now (kinds .entry)) (now (mapped .entry)) (now (starts .entry)) (now (lengths .entry)) (now (addresses .entry))) layout wordroom hostroom ⌝ }
+    ensures { λ r. ⌜ checkedNumbered r ≡ checkedOf (now (source .entry)) (now (prophets .entry)) (chainedAddress (now (source .entry)) (entriesOf (now (kinds .entry)) (now (mapped .entry)) (now (starts .entry)) (now (lengths .entry)) (now (addresses .entry))) (now (chains .entry))) layout wordroom hostroom ⌝ }
 {
     let listed = relocate_prophets::check_prophets(
         source,
@@ -94,6 +99,7 @@ pub fn check_all(
         starts,
         lengths,
         addresses,
+        chains,
     );
     match listed {
         ProphetsListed::Refused(refusal) => { Checked::Refused(AssembleRefusal::Relocate(refusal)) }
@@ -104,6 +110,7 @@ pub fn check_all(
             starts,
             lengths,
             addresses,
+            chains,
             layout,
             wordroom,
             hostroom,

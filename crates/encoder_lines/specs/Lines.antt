@@ -6,7 +6,7 @@ use Rattle.asm.specs.declared.AsmRow.the-variants.{Instruction, LabelCall, Labe
 use Rattle.asm.specs.declared.LineRead.{LineRead}
 use Rattle.asm.specs.declared.LineRead.the-variants.{Blank, Row, Unreadable}
 use Rattle.relocate.specs.Layout.{sortedRowAt}
-use Rattle.relocate.specs.declared.LabelEntry.{LabelEntry}
+use Rattle.relocate.specs.Columns.{LookUp}
 use Rattle.encoder_canonical.specs.Held.{heldCanonical}
 use Rattle.encoder_canonical.specs.declared.Canonical.{Canonical}
 use Rattle.encoder_canonical.specs.declared.Canonical.the-variants.{Is as Made, Unknown as NameUnknown, Misused}
@@ -20,18 +20,18 @@ ofCanonical (Made b) = MadeLine b
 ofCanonical NameUnknown = UnknownLine
 ofCanonical Misused = MisusedLine
 
-abbrev pub canonicalRow : List ℕ → List LabelEntry → AsmRow → CanonicalLine
-canonicalRow s es (Instruction i) = ofCanonical (heldCanonical s es i)
-canonicalRow s es (LabelCall start n) = Skip
-canonicalRow s es (LabelJmp start n) = Skip
-canonicalRow s es (LabelProphet start n) = Skip
+abbrev pub canonicalRow : List ℕ → LookUp → AsmRow → CanonicalLine
+canonicalRow s look (Instruction i) = ofCanonical (heldCanonical s look i)
+canonicalRow s look (LabelCall start n) = Skip
+canonicalRow s look (LabelJmp start n) = Skip
+canonicalRow s look (LabelProphet start n) = Skip
 
 -- the canonical instruction of a line that is an instruction row
-abbrev pub canonicalLine : List ℕ → List LabelEntry → LineRead → CanonicalLine
-canonicalLine s es Blank = Skip
-canonicalLine s es (Row r) = canonicalRow s es r
-canonicalLine s es Unreadable = Skip
+abbrev pub canonicalLine : List ℕ → LookUp → LineRead → CanonicalLine
+canonicalLine s look Blank = Skip
+canonicalLine s look (Row r) = canonicalRow s look r
+canonicalLine s look Unreadable = Skip
 
 -- the line at place v of the sorted source, and the place of the line after it
-abbrev pub canonicalAt : List ℕ → List LabelEntry → ℕ → ℕ → ℕ → CanonicalAt
-canonicalAt s es start end v = let r = sortedRowAt s start end v in record { found = canonicalLine s es (r .read); next = r .next }
+abbrev pub canonicalAt : List ℕ → LookUp → ℕ → ℕ → ℕ → CanonicalAt
+canonicalAt s look start end v = let r = sortedRowAt s start end v in record { found = canonicalLine s look (r .read); next = r .next }

@@ -1,11 +1,12 @@
 // The canonical instruction of a line of the sorted source, its names looked up in the label table: assembler/src/encoder.rs. The table's five columns
-// are lent one by one.
+// and its chains are lent one by one.
 use asm::AsmRow;
 use asm::LineRead;
 use encoder_canonical::Canonical;
 use program::BinaryInstruction;
 ghost use mathlib.Core.Path.{_≡_};
 ghost use Rattle.relocate.specs.Columns.{entriesOf};
+ghost use Rattle.relocate_chains.specs.Chains.{chainedAddress};
 ghost use Rattle.encoder_lines.specs.Lines.{ofCanonical, canonicalRow, canonicalLine, canonicalAt};
 
 // What a line becomes, as Canonical says it of its row; Skip where it is no instruction row.
@@ -41,9 +42,10 @@ fn canonical_row(
     starts: &[usize],
     lengths: &[usize],
     addresses: &[u64],
+    chains: &[u16],
     row: AsmRow,
 ) -> CanonicalLine
-    ensures { λ r. ⌜ r ≡ canonicalRow (now (source .entry)) (entriesOf (now (kinds .entry)) (now (mapped .entry)) (now (starts .entry)) (now (lengths .entry)) (now (addresses .entry))) row ⌝ }
+    ensures { λ r. ⌜ r ≡ canonicalRow (now (source .entry)) (chainedAddress (now (source .entry)) (entriesOf (now (kinds .entry)) (now (mapped .entry)) (now (starts .entry)) (now (lengths .entry)) (now (addresses .entry))) (now (chains .entry))) row ⌝ }
 {
     match row {
         AsmRow::Instruction(instruction) => of_canonical(encoder_canonical::canonical_of(
@@ -53,6 +55,7 @@ fn canonical_row(
             starts,
             lengths,
             addresses,
+            chains,
             instruction,
         )),
         _ => CanonicalLine::Skip,
@@ -67,12 +70,22 @@ fn canonical_line(
     starts: &[usize],
     lengths: &[usize],
     addresses: &[u64],
+    chains: &[u16],
     read: LineRead,
 ) -> CanonicalLine
-    ensures { λ r. ⌜ r ≡ canonicalLine (now (source .entry)) (entriesOf (now (kinds .entry)) (now (mapped .entry)) (now (starts .entry)) (now (lengths .entry)) (now (addresses .entry))) read ⌝ }
+    ensures { λ r. ⌜ r ≡ canonicalLine (now (source .entry)) (chainedAddress (now (source .entry)) (entriesOf (now (kinds .entry)) (now (mapped .entry)) (now (starts .entry)) (now (lengths .entry)) (now (addresses .entry))) (now (chains .entry))) read ⌝ }
 {
     match read {
-        LineRead::Row(row) => canonical_row(source, kinds, mapped, starts, lengths, addresses, row),
+        LineRead::Row(row) => canonical_row(
+            source,
+            kinds,
+            mapped,
+            starts,
+            lengths,
+            addresses,
+            chains,
+            row,
+        ),
         _ => CanonicalLine::Skip,
     }
 }
@@ -85,16 +98,26 @@ pub fn canonical_at(
     starts: &[usize],
     lengths: &[usize],
     addresses: &[u64],
+    chains: &[u16],
     start: usize,
     end: usize,
     at: usize,
 ) -> CanonicalAt
-    ensures { λ r. ⌜ r ≡ canonicalAt (now (source .entry)) (entriesOf (now (kinds .entry)) (now (mapped .entry)) (now (starts .entry)) (now (lengths .entry)) (now (addresses .entry))) start end at ⌝ }
+    ensures { λ r. ⌜ r ≡ canonicalAt (now (source .entry)) (chainedAddress (now (source .entry)) (entriesOf (now (kinds .entry)) (now (mapped .entry)) (now (starts .entry)) (now (lengths .entry)) (now (addresses .entry))) (now (chains .entry))) start end at ⌝ }
 {
     let row = relocate_walk::sorted_row(source, start, end, at);
     let read = row.read;
     CanonicalAt {
-        found: canonical_line(source, kinds, mapped, starts, lengths, addresses, read),
+        found: canonical_line(
+            source,
+            kinds,
+            mapped,
+            starts,
+            lengths,
+            addresses,
+            chains,
+            read,
+        ),
         next: row.next,
     }
 }

@@ -15,7 +15,7 @@ use Rattle.relocate.proofs.LengthLaws.{sorted-length}
 use Rattle.relocate_names.specs.Shortest.{shortestOf}
 use Rattle.encoder.specs.Assemble.{Accepted, numbered, totalsOf, encodedRows, assembled, assembledTotals, wordsLeft, hostsLeft}
 use Rattle.encoder.specs.declared.Assembly.{Assembly}
-use Rattle.encoder_room.proofs.LabelLaws.{label-bytes}
+use Rattle.encoder_assemble.proofs.LabelLaws.{label-bytes}
 
 -- the same refusals with a room that is cut to n, where there are n label rows at most
 same-test : (room n labels : ℕ) → labels ≤ n → ltb (min room n) labels ≡ ltb room labels

@@ -11,8 +11,8 @@ use Rattle.asm.specs.declared.AsmRow.the-variants.{Instruction, LabelCall, Labe
 use Rattle.asm.specs.declared.LineRead.{LineRead}
 use Rattle.asm.specs.declared.LineRead.the-variants.{Blank, Row, Unreadable}
 use Rattle.relocate.specs.Layout.{sortedRowAt, sortedFrom, sortedInstructions}
-use Rattle.relocate.specs.declared.LabelEntry.{LabelEntry}
 use Rattle.relocate.proofs.WalkLaws.{sorted-end, sorted-blank, sorted-row, sorted-unreadable, sorted-next-past, sorted-next-within, sorted-room}
+use Rattle.relocate.specs.Columns.{LookUp}
 use Rattle.encoder_canonical.specs.Held.{heldCanonical}
 use Rattle.encoder_canonical.specs.declared.Canonical.{Canonical}
 use Rattle.encoder_canonical.specs.declared.Canonical.the-variants.{Is as Made, Unknown as NameUnknown, Misused}
@@ -74,18 +74,18 @@ told-not-skip NameUnknown e = let z : _≡_ {A = ℕ} 0 1 = cc in omega arith
 told-not-skip Misused e = let z : _≡_ {A = ℕ} 0 1 = cc in omega arith
 
 -- an instruction row that became c, and the rows behind it
-pub record HeldRow (s : List ℕ) (es : List LabelEntry) (start end v next : ℕ) (c : Canonical) : Type 0 where
+pub record HeldRow (s : List ℕ) (look : LookUp) (start end v next : ℕ) (c : Canonical) : Type 0 where
   pub row : OlaAsmInstruction
-  pub held : heldCanonical s es row ≡ c
+  pub held : heldCanonical s look row ≡ c
   pub rest : rowsFrom s start end v ≡ row ∷ rowsFrom s start end next
   pub room : v + 3 ≤ next
 
 -- what was found at a line: nothing, and it adds nothing, or what its instruction row became
-data Found (s : List ℕ) (es : List LabelEntry) (start end v next : ℕ) (found : CanonicalLine) : Type 0 where
-  no-row : found ≡ Skip → rowsFrom s start end v ≡ rowsFrom s start end next → Found s es start end v next found
-  one-row : (c : Canonical) → found ≡ ofCanonical c → HeldRow s es start end v next c → Found s es start end v next found
+data Found (s : List ℕ) (look : LookUp) (start end v next : ℕ) (found : CanonicalLine) : Type 0 where
+  no-row : found ≡ Skip → rowsFrom s start end v ≡ rowsFrom s start end next → Found s look start end v next found
+  one-row : (c : Canonical) → found ≡ ofCanonical c → HeldRow s look start end v next c → Found s look start end v next found
 
-module _ (s : List ℕ) (es : List LabelEntry) (start end v : ℕ) (r : CanonicalAt) (a : start ≤ end) (b : end ≤ length s) (e : r ≡ canonicalAt s es start end v) (h : v < length s) where
+module _ (s : List ℕ) (look : LookUp) (start end v : ℕ) (r : CanonicalAt) (a : start ≤ end) (b : end ≤ length s) (e : r ≡ canonicalAt s look start end v) (h : v < length s) where
   -- the next line is that of the sorted source
   next-is : r .next ≡ sortedRowAt s start end v .next
   next-is = ap (λ (x : CanonicalAt). x .next) e
@@ -99,13 +99,13 @@ module _ (s : List ℕ) (es : List LabelEntry) (start end v : ℕ) (r : Canonica
   line-within = let w = sorted-next-within s start end v (sortedRowAt s start end v) a b refl h in let n = next-is in omega arith
 
   -- what was found is what the line's row, if it has one, became
-  line-found : Found s es start end v (r .next) (r .found)
+  line-found : Found s look start end v (r .next) (r .found)
   unfolding instructions
   line-found = rw e (go (sortedRowAt s start end v .read) refl)
     where
-      go : (l : LineRead) → sortedRowAt s start end v .read ≡ l → Found s es start end v (sortedRowAt s start end v .next) (canonicalLine s es l)
+      go : (l : LineRead) → sortedRowAt s start end v .read ≡ l → Found s look start end v (sortedRowAt s start end v .next) (canonicalLine s look l)
       go Blank k = no-row refl (ap instructions (sorted-blank s start end v (sortedRowAt s start end v) a b refl h k))
-      go (Row (Instruction i)) k = one-row (heldCanonical s es i) refl (record {
+      go (Row (Instruction i)) k = one-row (heldCanonical s look i) refl (record {
         row = i;
         held = refl;
         rest = ap instructions (sorted-row s start end v (sortedRowAt s start end v) a b refl (Instruction i) h k);
@@ -120,17 +120,17 @@ module _ (s : List ℕ) (es : List LabelEntry) (start end v : ℕ) (r : Canonica
   pub line-skip : r .found ≡ Skip → rowsFrom s start end v ≡ rowsFrom s start end (r .next)
   line-skip k = go line-found
     where
-      go : Found s es start end v (r .next) (r .found) → rowsFrom s start end v ≡ rowsFrom s start end (r .next)
+      go : Found s look start end v (r .next) (r .found) → rowsFrom s start end v ≡ rowsFrom s start end (r .next)
       go (no-row f g) = g
       go (one-row c f g) = absurd (told-not-skip c (sym f ∙ k))
 
   -- any other is an instruction row that became what was found
-  pub line-row : (c : Canonical) → r .found ≡ ofCanonical c → HeldRow s es start end v (r .next) c
+  pub line-row : (c : Canonical) → r .found ≡ ofCanonical c → HeldRow s look start end v (r .next) c
   line-row c k = go line-found
     where
-      go : Found s es start end v (r .next) (r .found) → HeldRow s es start end v (r .next) c
+      go : Found s look start end v (r .next) (r .found) → HeldRow s look start end v (r .next) c
       go (no-row f g) = absurd (told-not-skip c (sym k ∙ f))
-      go (one-row d f g) = subst (HeldRow s es start end v (r .next)) (told-same d c (sym f ∙ k)) g
+      go (one-row d f g) = subst (HeldRow s look start end v (r .next)) (told-same d c (sym f ∙ k)) g
 
   -- so each line brings the walk nearer to the end
   pub line-less : length s - r .next < length s - v

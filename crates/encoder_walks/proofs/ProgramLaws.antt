@@ -9,8 +9,8 @@ use Rattle.text.proofs.AnswerLaws.{ok-same, ok-bind}
 use Rattle.asm.specs.declared.OlaAsmInstruction.{OlaAsmInstruction}
 use Rattle.asm.specs.declared.PlaceFound.{PlaceFound}
 use Rattle.asm.specs.declared.PlaceFound.the-variants.{At, Nothing}
-use Rattle.relocate.specs.declared.LabelEntry.{LabelEntry}
 use Rattle.program.specs.declared.BinaryInstruction.{BinaryInstruction}
+use Rattle.relocate.specs.Columns.{LookUp}
 use Rattle.encoder.specs.Canonical.{firstMisplaced}
 use Rattle.encoder_canonical.specs.Held.{heldCanonical, canonicalNumbered, heldProgram}
 use Rattle.encoder_canonical.specs.declared.Canonical.the-variants.{Is as Made}
@@ -23,24 +23,24 @@ placeFound none = Nothing
 placeFound (some d) = At d
 
 -- an accepted program: its first row, and the rest
-pub record Accepted (s : List ℕ) (es : List LabelEntry) (k : ℕ) (i : OlaAsmInstruction) (is : List OlaAsmInstruction) (bs : List BinaryInstruction) : Type 0 where
+pub record Accepted (s : List ℕ) (look : LookUp) (k : ℕ) (i : OlaAsmInstruction) (is : List OlaAsmInstruction) (bs : List BinaryInstruction) : Type 0 where
   pub first : BinaryInstruction
   pub later : List BinaryInstruction
-  pub held : heldCanonical s es i ≡ Made first
-  pub rest : heldProgram s es (suc k) is ≡ ok later
+  pub held : heldCanonical s look i ≡ Made first
+  pub rest : heldProgram s look (suc k) is ≡ ok later
   pub whole : first ∷ later ≡ bs
 
 -- every accepted program with a row is so
-pub accepted-first : (s : List ℕ) (es : List LabelEntry) (k : ℕ) (i : OlaAsmInstruction) (is : List OlaAsmInstruction) (bs : List BinaryInstruction)
-    → heldProgram s es k (i ∷ is) ≡ ok bs → Accepted s es k i is bs
+pub accepted-first : (s : List ℕ) (look : LookUp) (k : ℕ) (i : OlaAsmInstruction) (is : List OlaAsmInstruction) (bs : List BinaryInstruction)
+    → heldProgram s look k (i ∷ is) ≡ ok bs → Accepted s look k i is bs
 unfolding heldProgram
-accepted-first s es k i is bs e =
-    let x = ok-bind (canonicalNumbered k (heldCanonical s es i)) _ bs e in
-    let y = ok-bind (heldProgram s es (suc k) is) _ bs (x .2) in
+accepted-first s look k i is bs e =
+    let x = ok-bind (canonicalNumbered k (heldCanonical s look i)) _ bs e in
+    let y = ok-bind (heldProgram s look (suc k) is) _ bs (x .2) in
     record {
       first = x .0;
       later = y .0;
-      held = numbered-made k (heldCanonical s es i) (x .0) (x .1);
+      held = numbered-made k (heldCanonical s look i) (x .0) (x .1);
       rest = y .1;
       whole = ok-same (y .2);
     }
@@ -51,11 +51,11 @@ place-told true k later = refl
 place-told false k later = refl
 
 -- where every name is known, the walk's first misplaced number is that of the program
-pub held-misplaced : (s : List ℕ) (es : List LabelEntry) (k : ℕ) (is : List OlaAsmInstruction) (bs : List BinaryInstruction)
-    → heldProgram s es k is ≡ ok bs → heldMisplaced s es k is ≡ placeFound (firstMisplaced k bs)
+pub held-misplaced : (s : List ℕ) (look : LookUp) (k : ℕ) (is : List OlaAsmInstruction) (bs : List BinaryInstruction)
+    → heldProgram s look k is ≡ ok bs → heldMisplaced s look k is ≡ placeFound (firstMisplaced k bs)
 unfolding heldMisplaced firstMisplaced heldProgram
-held-misplaced s es k [] bs e = rw (← (ok-same e))
-held-misplaced s es k (i ∷ is) bs e =
-    let w = accepted-first s es k i is bs e in
-    rw (w .held, held-misplaced s es (suc k) is (w .later) (w .rest))
+held-misplaced s look k [] bs e = rw (← (ok-same e))
+held-misplaced s look k (i ∷ is) bs e =
+    let w = accepted-first s look k i is bs e in
+    rw (w .held, held-misplaced s look (suc k) is (w .later) (w .rest))
     (place-told (isNumberAside (w .first)) k (firstMisplaced (suc k) (w .later)) ∙ ap (λ (bs : List BinaryInstruction). placeFound (firstMisplaced k bs)) (w .whole))

@@ -7,9 +7,9 @@ use Rattle.text.specs.Answer.{Answer, ok, refused, _>>=_}
 use Rattle.asm.specs.declared.OlaAsmInstruction.{OlaAsmInstruction}
 use Rattle.asm.specs.declared.PlaceFound.{PlaceFound}
 use Rattle.asm.specs.declared.PlaceFound.the-variants.{At, Nothing}
-use Rattle.relocate.specs.declared.LabelEntry.{LabelEntry}
 use Rattle.program.specs.Instructions.{isNumber}
 use Rattle.program.specs.declared.BinaryInstruction.{BinaryInstruction}
+use Rattle.relocate.specs.Columns.{LookUp}
 use Rattle.encoder.specs.Assemble.{assembleNumber, assembleDetail}
 use Rattle.encoder_canonical.specs.Held.{heldCanonical, heldProgram}
 use Rattle.encoder_canonical.specs.declared.Canonical.{Canonical}
@@ -22,8 +22,8 @@ resolutionNumbered (Is n) = ok n
 resolutionNumbered (Refused f) = refused (assembleNumber f) (assembleDetail f)
 
 -- 10 or 11, or how many instructions there are
-unfoldable pub heldCount : List ℕ → List LabelEntry → List OlaAsmInstruction → Answer ℕ
-heldCount s es is = heldProgram s es 0 is >>= λ bs. ok (length bs)
+unfoldable pub heldCount : List ℕ → LookUp → List OlaAsmInstruction → Answer ℕ
+heldCount s look is = heldProgram s look 0 is >>= λ bs. ok (length bs)
 
 -- "a number, names resolved, in op0 or dst"
 abbrev pub isNumberAside : BinaryInstruction → Bool
@@ -35,6 +35,6 @@ isMisplaced Unknown = false
 isMisplaced Misused = false
 
 -- 12: the first such instruction, counted from k
-unfoldable pub heldMisplaced : List ℕ → List LabelEntry → ℕ → List OlaAsmInstruction → PlaceFound
-heldMisplaced s es k [] = Nothing
-heldMisplaced s es k (i ∷ is) = cond (isMisplaced (heldCanonical s es i)) (At k) (heldMisplaced s es (suc k) is)
+unfoldable pub heldMisplaced : List ℕ → LookUp → ℕ → List OlaAsmInstruction → PlaceFound
+heldMisplaced s look k [] = Nothing
+heldMisplaced s look k (i ∷ is) = cond (isMisplaced (heldCanonical s look i)) (At k) (heldMisplaced s look (suc k) is)

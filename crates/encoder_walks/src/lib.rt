@@ -1,4 +1,4 @@
-// Refusals 10 to 12: walks over the canonical instructions in sorted order, by the label table's five columns.
+// Refusals 10 to 12: walks over the canonical instructions in sorted order, by the label table's five columns and its chains.
 use asm::PlaceFound;
 use asm::RowCount;
 use encoder::AssembleRefusal;
@@ -10,6 +10,7 @@ ghost use Prim.Native.Nat.{_≤_};
 ghost use lib.ListN.{length};
 ghost use Rattle.relocate.specs.Layout.{sortedInstructions};
 ghost use Rattle.relocate.specs.Columns.{entriesOf};
+ghost use Rattle.relocate_chains.specs.Chains.{chainedAddress};
 ghost use Rattle.encoder_walks.specs.Walks.{isNumberAside, heldCount, heldMisplaced, resolutionNumbered};
 
 // How many instructions a source has, where every name is known and every memory operand is one.
@@ -26,11 +27,12 @@ fn resolve_within(
     starts: &[usize],
     lengths: &[usize],
     addresses: &[u64],
+    chains: &[u16],
     start: usize,
     end: usize,
 ) -> Resolution
     requires { ⌜ (start ≤ end) × (end ≤ length (now source)) ⌝ }
-    ensures { λ r. ⌜ resolutionNumbered r ≡ heldCount (now (source .entry)) (entriesOf (now (kinds .entry)) (now (mapped .entry)) (now (starts .entry)) (now (lengths .entry)) (now (addresses .entry))) (sortedInstructions (now (source .entry)) start end) ⌝ }
+    ensures { λ r. ⌜ resolutionNumbered r ≡ heldCount (now (source .entry)) (chainedAddress (now (source .entry)) (entriesOf (now (kinds .entry)) (now (mapped .entry)) (now (starts .entry)) (now (lengths .entry)) (now (addresses .entry))) (now (chains .entry))) (sortedInstructions (now (source .entry)) start end) ⌝ }
 {
     let mut at: usize = 0;
     let mut count: usize = 0;
@@ -42,6 +44,7 @@ fn resolve_within(
             starts,
             lengths,
             addresses,
+            chains,
             start,
             end,
             at,
@@ -70,10 +73,11 @@ pub fn resolve(
     starts: &[usize],
     lengths: &[usize],
     addresses: &[u64],
+    chains: &[u16],
     start: usize,
     end: usize,
 ) -> Resolution
-    ensures { λ r. ⌜ resolutionNumbered r ≡ heldCount (now (source .entry)) (entriesOf (now (kinds .entry)) (now (mapped .entry)) (now (starts .entry)) (now (lengths .entry)) (now (addresses .entry))) (sortedInstructions (now (source .entry)) start end) ⌝ }
+    ensures { λ r. ⌜ resolutionNumbered r ≡ heldCount (now (source .entry)) (chainedAddress (now (source .entry)) (entriesOf (now (kinds .entry)) (now (mapped .entry)) (now (starts .entry)) (now (lengths .entry)) (now (addresses .entry))) (now (chains .entry))) (sortedInstructions (now (source .entry)) start end) ⌝ }
 {
     if end < start {
         return Resolution::Is(0);
@@ -88,6 +92,7 @@ pub fn resolve(
         starts,
         lengths,
         addresses,
+        chains,
         start,
         end,
     )
@@ -116,11 +121,12 @@ fn misplaced_within(
     starts: &[usize],
     lengths: &[usize],
     addresses: &[u64],
+    chains: &[u16],
     start: usize,
     end: usize,
 ) -> PlaceFound
     requires { ⌜ (start ≤ end) × (end ≤ length (now source)) ⌝ }
-    ensures { λ r. ⌜ r ≡ heldMisplaced (now (source .entry)) (entriesOf (now (kinds .entry)) (now (mapped .entry)) (now (starts .entry)) (now (lengths .entry)) (now (addresses .entry))) 0 (sortedInstructions (now (source .entry)) start end) ⌝ }
+    ensures { λ r. ⌜ r ≡ heldMisplaced (now (source .entry)) (chainedAddress (now (source .entry)) (entriesOf (now (kinds .entry)) (now (mapped .entry)) (now (starts .entry)) (now (lengths .entry)) (now (addresses .entry))) (now (chains .entry))) 0 (sortedInstructions (now (source .entry)) start end) ⌝ }
 {
     let mut at: usize = 0;
     let mut index: usize = 0;
@@ -132,6 +138,7 @@ fn misplaced_within(
             starts,
             lengths,
             addresses,
+            chains,
             start,
             end,
             at,
@@ -161,10 +168,11 @@ pub fn misplaced(
     starts: &[usize],
     lengths: &[usize],
     addresses: &[u64],
+    chains: &[u16],
     start: usize,
     end: usize,
 ) -> PlaceFound
-    ensures { λ r. ⌜ r ≡ heldMisplaced (now (source .entry)) (entriesOf (now (kinds .entry)) (now (mapped .entry)) (now (starts .entry)) (now (lengths .entry)) (now (addresses .entry))) 0 (sortedInstructions (now (source .entry)) start end) ⌝ }
+    ensures { λ r. ⌜ r ≡ heldMisplaced (now (source .entry)) (chainedAddress (now (source .entry)) (entriesOf (now (kinds .entry)) (now (mapped .entry)) (now (starts .entry)) (now (lengths .entry)) (now (addresses .entry))) (now (chains .entry))) 0 (sortedInstructions (now (source .entry)) start end) ⌝ }
 {
     if end < start {
         return PlaceFound::Nothing;
@@ -179,6 +187,7 @@ pub fn misplaced(
         starts,
         lengths,
         addresses,
+        chains,
         start,
         end,
     )

@@ -18,7 +18,7 @@ use Rattle.asm.specs.declared.AsmRow.{AsmRow}
 use Rattle.relocate.specs.Labels.{LabelRow, prophetKind, labelRows, addressOf, hostOf, markedAddress, entryOf, tableOf, names, laterOr, holder}
 use Rattle.relocate.specs.Prophets.{listedLabels, hostFound, hostsFrom}
 use Rattle.relocate.specs.Relocate.{hostsOf}
-use Rattle.relocate.specs.Columns.{kindOf, mappedOf, startOf, lengthOf, addressIn, entriesOf, laterAddress, heldAddress, heldHost, heldHostsFrom, heldHosts}
+use Rattle.relocate.specs.Columns.{kindOf, mappedOf, startOf, lengthOf, addressIn, entriesOf, laterAddress, heldAddress, lookedIn, heldHost, heldHostsFrom, heldHosts}
 use Rattle.relocate.specs.declared.LabelEntry.{LabelEntry}
 use Rattle.relocate.specs.declared.AddressFound.{AddressFound}
 use Rattle.relocate.specs.declared.AddressFound.the-variants.{At, Nothing}
@@ -73,23 +73,23 @@ module _ (s : List ℕ) (x : List ℕ) (rows : List AsmRow) where
 
 -- ---- prophets
 
-held-hosts-from : (s : List ℕ) (rows : List AsmRow) (k : ℕ) (xs : List (List ℕ)) → heldHostsFrom s (tableOf rows) k xs ≡ hostsFrom s rows k xs
+held-hosts-from : (s : List ℕ) (rows : List AsmRow) (k : ℕ) (xs : List (List ℕ)) → heldHostsFrom (lookedIn s (tableOf rows)) k xs ≡ hostsFrom s rows k xs
 unfolding heldHostsFrom hostsFrom _>>=_
 held-hosts-from s rows k [] = refl
 held-hosts-from s rows k (x ∷ xs) = rw (held-prophet s x rows) (go (holder s prophetKind x (labelRows 0 rows)) (held-hosts-from s rows (suc k) xs))
   where
-    go : (o : Option LabelRow) → heldHostsFrom s (tableOf rows) (suc k) xs ≡ hostsFrom s rows (suc k) xs
-        → (heldHost k (foundBy (λ l. hostOf (instructions rows) (l .marks)) o) >>= λ h. heldHostsFrom s (tableOf rows) (suc k) xs >>= λ hs. ok (h ∷ hs))
+    go : (o : Option LabelRow) → heldHostsFrom (lookedIn s (tableOf rows)) (suc k) xs ≡ hostsFrom s rows (suc k) xs
+        → (heldHost k (foundBy (λ l. hostOf (instructions rows) (l .marks)) o) >>= λ h. heldHostsFrom (lookedIn s (tableOf rows)) (suc k) xs >>= λ hs. ok (h ∷ hs))
         ≡ (hostFound (instructions rows) k o >>= λ h. hostsFrom s rows (suc k) xs >>= λ hs. ok (h ∷ hs))
     go none e = refl
     go (some l) e = ap (λ (a : Answer (List ℕ)). a >>= λ hs. ok (hostOf (instructions rows) (l .marks) ∷ hs)) e
 
 -- refusals 8 and 9 and the hosts by the label table are those by the sorted rows
-pub held-hosts : (s : List ℕ) (rows : List AsmRow) (list : List ℕ) → heldHosts s (tableOf rows) list ≡ hostsOf s rows list
+pub held-hosts : (s : List ℕ) (rows : List AsmRow) (list : List ℕ) → heldHosts (lookedIn s (tableOf rows)) list ≡ hostsOf s rows list
 unfolding heldHosts hostsOf _>>=_
 held-hosts s rows list = go (listedLabels list)
   where
-    go : (a : Answer (List (List ℕ))) → (a >>= λ xs. heldHostsFrom s (tableOf rows) 0 xs) ≡ (a >>= λ xs. hostsFrom s rows 0 xs)
+    go : (a : Answer (List (List ℕ))) → (a >>= λ xs. heldHostsFrom (lookedIn s (tableOf rows)) 0 xs) ≡ (a >>= λ xs. hostsFrom s rows 0 xs)
     go (ok xs) = held-hosts-from s rows 0 xs
     go (refused n d) = refl
 

@@ -65,7 +65,15 @@ unfoldable pub heldAddress : List ℕ → ℕ → List ℕ → List LabelEntry �
 heldAddress s kind x [] = Nothing
 heldAddress s kind x (e ∷ es) = laterAddress (heldAddress s kind x es) (cond (entryNames s kind x e) (At (e .address)) Nothing)
 
--- ---- prophets, by the table
+-- how a name of a kind is looked up
+abbrev pub LookUp : Type 0
+LookUp = ℕ → List ℕ → AddressFound
+
+-- in the entries of a table
+abbrev pub lookedIn : List ℕ → List LabelEntry → LookUp
+lookedIn s es kind x = heldAddress s kind x es
+
+-- ---- prophets, each looked up
 
 -- 9 "a prophet that no mapped prophet row names (its index from 0)"
 abbrev pub heldHost : ℕ → AddressFound → Answer ℕ
@@ -73,13 +81,13 @@ heldHost k (At a) = ok (a .0)
 heldHost k Nothing = refused 9 k
 
 -- each prophet's host, in list order, counted from k
-unfoldable pub heldHostsFrom : List ℕ → List LabelEntry → ℕ → List (List ℕ) → Answer (List ℕ)
-heldHostsFrom s es k [] = ok []
-heldHostsFrom s es k (x ∷ xs) = heldHost k (heldAddress s prophetKind x es) >>= λ h. heldHostsFrom s es (suc k) xs >>= λ hs. ok (h ∷ hs)
+unfoldable pub heldHostsFrom : LookUp → ℕ → List (List ℕ) → Answer (List ℕ)
+heldHostsFrom look k [] = ok []
+heldHostsFrom look k (x ∷ xs) = heldHost k (look prophetKind x) >>= λ h. heldHostsFrom look (suc k) xs >>= λ hs. ok (h ∷ hs)
 
--- refusals 8 and 9 by the label table: ColumnLaws says that with the table of sorted rows this is `hostsOf`
-unfoldable pub heldHosts : List ℕ → List LabelEntry → List ℕ → Answer (List ℕ)
-heldHosts s es list = listedLabels list >>= λ labels. heldHostsFrom s es 0 labels
+-- refusals 8 and 9: ColumnLaws says that with the table of sorted rows this is `hostsOf`
+unfoldable pub heldHosts : LookUp → List ℕ → Answer (List ℕ)
+heldHosts look list = listedLabels list >>= λ labels. heldHostsFrom look 0 labels
 
 -- how many prophets are listed
 abbrev pub hostCount : Answer (List ℕ) → Answer ℕ

@@ -25,9 +25,8 @@ use Rattle.asm.specs.declared.PlaceFound.the-variants.{At as AtPlace, Nothing a
 use Rattle.asm.proofs.StepLaws.{next-further}
 use Rattle.relocate.specs.Labels.{prophetKind}
 use Rattle.relocate.specs.Prophets.{listedLabels}
-use Rattle.relocate.specs.Columns.{heldAddress, heldHost, heldHostsFrom, heldHosts, hostCount, listedNumbered, hostsPut}
+use Rattle.relocate.specs.Columns.{LookUp, heldHost, heldHostsFrom, heldHosts, hostCount, listedNumbered, hostsPut}
 use Rattle.relocate.specs.declared.WordAddress.{WordAddress}
-use Rattle.relocate.specs.declared.LabelEntry.{LabelEntry}
 use Rattle.relocate.specs.declared.AddressFound.{AddressFound}
 use Rattle.relocate.specs.declared.AddressFound.the-variants.{At, Nothing}
 use Rattle.relocate.specs.declared.RelocateRefusal.the-variants.{ProphetListMalformed, ProphetUnknown}
@@ -90,45 +89,45 @@ unfolding _>>=_
 count-from (ok hs) = ap ok (sym (zero-add (length hs)))
 count-from (refused n d) = refl
 
-module _ (s : List ℕ) (es : List LabelEntry) (k : ℕ) (x : List ℕ) (xs : List (List ℕ)) where
+module _ (look : LookUp) (k : ℕ) (x : List ℕ) (xs : List (List ℕ)) where
   -- a label found counts one
-  count-found : (w : WordAddress) → heldAddress s prophetKind x es ≡ At w → counted k (heldHostsFrom s es k (x ∷ xs)) ≡ counted (k + 1) (heldHostsFrom s es (k + 1) xs)
+  count-found : (w : WordAddress) → look prophetKind x ≡ At w → counted k (heldHostsFrom look k (x ∷ xs)) ≡ counted (k + 1) (heldHostsFrom look (k + 1) xs)
   unfolding heldHostsFrom _>>=_
-  count-found w e = rw (e, add-one k) (go (heldHostsFrom s es (suc k) xs))
+  count-found w e = rw (e, add-one k) (go (heldHostsFrom look (suc k) xs))
     where
       go : (a : Answer (List ℕ)) → counted k (a >>= λ hs. ok (w .0 ∷ hs)) ≡ counted (suc k) a
       go (ok hs) = ap ok (omega arith)
       go (refused n d) = refl
 
   -- one that is not found is the answer
-  count-unknown : heldAddress s prophetKind x es ≡ Nothing → counted k (heldHostsFrom s es k (x ∷ xs)) ≡ refused 9 k
+  count-unknown : look prophetKind x ≡ Nothing → counted k (heldHostsFrom look k (x ∷ xs)) ≡ refused 9 k
   unfolding heldHostsFrom _>>=_
   count-unknown e = rw e
 
-module _ (s : List ℕ) (es : List LabelEntry) (list : List ℕ) (start : ℕ) where
+module _ (look : LookUp) (list : List ℕ) (start : ℕ) where
   -- where the walk begins
-  pub count-start : hostCount (heldHostsFrom s es 0 (linesFrom list start)) ≡ counted 0 (heldHostsFrom s es 0 (linesFrom list start))
-  count-start = count-from (heldHostsFrom s es 0 (linesFrom list start))
+  pub count-start : hostCount (heldHostsFrom look 0 (linesFrom list start)) ≡ counted 0 (heldHostsFrom look 0 (linesFrom list start))
+  count-start = count-from (heldHostsFrom look 0 (linesFrom list start))
 
-  module _ (k at : ℕ) (i : hostCount (heldHostsFrom s es 0 (linesFrom list start)) ≡ counted k (heldHostsFrom s es k (linesFrom list at))) where
-    module _ (line : Line) (e : line ≡ lineFrom list at) (h : at < length list) (found : AddressFound) (f : found ≡ heldAddress s 2 (take (at + line .length - at) (drop at list)) es) where
+  module _ (k at : ℕ) (i : hostCount (heldHostsFrom look 0 (linesFrom list start)) ≡ counted k (heldHostsFrom look k (linesFrom list at))) where
+    module _ (line : Line) (e : line ≡ lineFrom list at) (h : at < length list) (found : AddressFound) (f : found ≡ look 2 (take (at + line .length - at) (drop at list))) where
       -- a label that the table holds
-      pub count-more : (w : WordAddress) → found ≡ At w → hostCount (heldHostsFrom s es 0 (linesFrom list start)) ≡ counted (k + 1) (heldHostsFrom s es (k + 1) (linesFrom list (line .next)))
+      pub count-more : (w : WordAddress) → found ≡ At w → hostCount (heldHostsFrom look 0 (linesFrom list start)) ≡ counted (k + 1) (heldHostsFrom look (k + 1) (linesFrom list (line .next)))
       count-more w g =
           i
-          ∙ ap (λ (xs : List (List ℕ)). counted k (heldHostsFrom s es k xs)) (label-first list at line e h)
-          ∙ count-found s es k (take (at + line .length - at) (drop at list)) (linesFrom list (line .next)) w (sym f ∙ g)
+          ∙ ap (λ (xs : List (List ℕ)). counted k (heldHostsFrom look k xs)) (label-first list at line e h)
+          ∙ count-found look k (take (at + line .length - at) (drop at list)) (linesFrom list (line .next)) w (sym f ∙ g)
 
       -- one that it does not hold
-      pub count-none : found ≡ Nothing → listedNumbered (Refused (ProphetUnknown k)) ≡ hostCount (heldHostsFrom s es 0 (linesFrom list start))
+      pub count-none : found ≡ Nothing → listedNumbered (Refused (ProphetUnknown k)) ≡ hostCount (heldHostsFrom look 0 (linesFrom list start))
       count-none g =
           sym
           (i
-          ∙ ap (λ (xs : List (List ℕ)). counted k (heldHostsFrom s es k xs)) (label-first list at line e h)
-          ∙ count-unknown s es k (take (at + line .length - at) (drop at list)) (linesFrom list (line .next)) (sym f ∙ g))
+          ∙ ap (λ (xs : List (List ℕ)). counted k (heldHostsFrom look k xs)) (label-first list at line e h)
+          ∙ count-unknown look k (take (at + line .length - at) (drop at list)) (linesFrom list (line .next)) (sym f ∙ g))
 
     -- the list's end
-    pub count-end : length list ≤ at → listedNumbered (Is k) ≡ hostCount (heldHostsFrom s es 0 (linesFrom list start))
+    pub count-end : length list ≤ at → listedNumbered (Is k) ≡ hostCount (heldHostsFrom look 0 (linesFrom list start))
     unfolding heldHostsFrom _>>=_
     count-end h = sym (i ∙ rw (lines-end list at h) (ap ok (add-zero k)))
 
@@ -136,32 +135,42 @@ pub ruleset count-laws = (label-laws, count-start, count-more, count-none, count
 
 -- ---- the list's head
 
-module _ (s : List ℕ) (es : List LabelEntry) (list : List ℕ) (p : PlaceFound) (e : p ≡ labelsStart list) where
+module _ (look : LookUp) (list : List ℕ) (p : PlaceFound) (e : p ≡ labelsStart list) where
   -- the labels by where they start
   listed-told : listedLabels list ≡ labelsFound list p
   listed-told = listed-found list ∙ ap (labelsFound list) (sym e)
 
   -- their hosts, and refusal 8
-  hosts-at : (i : ℕ) → p ≡ AtPlace i → heldHosts s es list ≡ heldHostsFrom s es 0 (linesFrom list i)
+  hosts-at : (i : ℕ) → p ≡ AtPlace i → heldHosts look list ≡ heldHostsFrom look 0 (linesFrom list i)
   unfolding heldHosts _>>=_
   hosts-at i f = rw (listed-told, f)
 
-  hosts-nowhere : p ≡ NoPlace → heldHosts s es list ≡ refused 8 0
+  hosts-nowhere : p ≡ NoPlace → heldHosts look list ≡ refused 8 0
   unfolding heldHosts _>>=_
   hosts-nowhere f = rw (listed-told, f)
 
   -- a list that is turned away
-  pub head-other : p ≡ NoPlace → listedNumbered (Refused ProphetListMalformed) ≡ hostCount (heldHosts s es list)
+  pub head-other : p ≡ NoPlace → listedNumbered (Refused ProphetListMalformed) ≡ hostCount (heldHosts look list)
   unfolding _>>=_
   head-other f = sym (ap hostCount (hosts-nowhere f))
 
   -- the labels behind its head
-  pub head-label : (i : ℕ) (r : ProphetsListed) → p ≡ AtPlace i → listedNumbered r ≡ hostCount (heldHostsFrom s es 0 (linesFrom list i)) → listedNumbered r ≡ hostCount (heldHosts s es list)
+  pub head-label : (i : ℕ) (r : ProphetsListed) → p ≡ AtPlace i → listedNumbered r ≡ hostCount (heldHostsFrom look 0 (linesFrom list i)) → listedNumbered r ≡ hostCount (heldHosts look list)
   head-label i r f g = g ∙ sym (ap hostCount (hosts-at i f))
 
 pub ruleset head-laws = (head-other, head-label, needs)
 
 -- ---- the hosts written
+
+-- a label that is found has its host
+pub host-found : (found f : AddressFound) (w : WordAddress) → found ≡ f → found ≡ At w → w .0 ≡ hostIn f
+host-found found f w e g = rw (← e, g)
+
+-- one that is not has none
+pub host-none : (found f : AddressFound) → found ≡ f → found ≡ Nothing → 0 ≡ hostIn f
+host-none found f e g = rw (← e, g)
+
+pub ruleset host-laws = (host-found, host-none, needs)
 
 module _ (list : List ℕ) (index at : ℕ) (line : Line) (e : line ≡ lineFrom list at) (h : at < length list) where
   -- a line less is left
@@ -177,19 +186,19 @@ module _ (list : List ℕ) (index at : ℕ) (line : Line) (e : line ≡ lineFrom
   put-rest new host k = let n = lines-count in let l = length-set new index host in omega arith
 
   -- a host more
-  pub put-more : (s : List ℕ) (es : List LabelEntry) (start : ℕ) (old new : List ℕ) (found : AddressFound) (host : ℕ)
-      → found ≡ heldAddress s 2 (take (at + line .length - at) (drop at list)) es → host ≡ hostIn found
-      → sets old 0 (hostsIn s es (linesFrom list start)) ≡ sets new index (hostsIn s es (linesFrom list at))
-      → sets old 0 (hostsIn s es (linesFrom list start)) ≡ sets (set new index host) (index + 1) (hostsIn s es (linesFrom list (line .next)))
-  put-more s es start old new found host f g i =
+  pub put-more : (look : LookUp) (start : ℕ) (old new : List ℕ) (host : ℕ)
+      → host ≡ hostIn (look 2 (take (at + line .length - at) (drop at list)))
+      → sets old 0 (hostsIn look (linesFrom list start)) ≡ sets new index (hostsIn look (linesFrom list at))
+      → sets old 0 (hostsIn look (linesFrom list start)) ≡ sets (set new index host) (index + 1) (hostsIn look (linesFrom list (line .next)))
+  put-more look start old new host f i =
       i
-      ∙ ap (λ (xs : List (List ℕ)). sets new index (hostsIn s es xs)) (label-first list at line e h)
-      ∙ rw (g, f, add-one index)
+      ∙ ap (λ (xs : List (List ℕ)). sets new index (hostsIn look xs)) (label-first list at line e h)
+      ∙ rw (f, add-one index)
 
 -- the list's end
-pub put-end : (s : List ℕ) (es : List LabelEntry) (list : List ℕ) (start index at : ℕ) (old new : List ℕ) → length list ≤ at
-    → sets old 0 (hostsIn s es (linesFrom list start)) ≡ sets new index (hostsIn s es (linesFrom list at)) → new ≡ sets old 0 (hostsIn s es (linesFrom list start))
-put-end s es list start index at old new h i = sym (i ∙ rw (lines-end list at h))
+pub put-end : (look : LookUp) (list : List ℕ) (start index at : ℕ) (old new : List ℕ) → length list ≤ at
+    → sets old 0 (hostsIn look (linesFrom list start)) ≡ sets new index (hostsIn look (linesFrom list at)) → new ≡ sets old 0 (hostsIn look (linesFrom list start))
+put-end look list start index at old new h i = sym (i ∙ rw (lines-end list at h))
 
 pub ruleset put-laws = (label-laws, put-room, put-rest, put-more, put-end, needs)
 
@@ -211,25 +220,25 @@ cons-same : {x y : ℕ} {xs ys : List ℕ} → x ≡ y → xs ≡ ys → x ∷ x
 cons-same p q = cc
 
 -- accepted hosts are those in the table
-hosts-are : (s : List ℕ) (es : List LabelEntry) (k : ℕ) (xs : List (List ℕ)) (hs : List ℕ) → heldHostsFrom s es k xs ≡ ok hs → hs ≡ hostsIn s es xs
+hosts-are : (look : LookUp) (k : ℕ) (xs : List (List ℕ)) (hs : List ℕ) → heldHostsFrom look k xs ≡ ok hs → hs ≡ hostsIn look xs
 unfolding heldHostsFrom
-hosts-are s es k [] hs e = sym (ok-same e)
-hosts-are s es k (x ∷ xs) hs e =
-    let a = ok-bind (heldHost k (heldAddress s prophetKind x es)) _ hs e in
-    let b = ok-bind (heldHostsFrom s es (suc k) xs) _ hs (a .2) in
-    let p : a .0 ≡ hostIn (heldAddress s prophetKind x es) = host-is k (heldAddress s prophetKind x es) (a .0) (a .1) in
-    let q : b .0 ≡ hostsIn s es xs = hosts-are s es (suc k) xs (b .0) (b .1) in
+hosts-are look k [] hs e = sym (ok-same e)
+hosts-are look k (x ∷ xs) hs e =
+    let a = ok-bind (heldHost k (look prophetKind x)) _ hs e in
+    let b = ok-bind (heldHostsFrom look (suc k) xs) _ hs (a .2) in
+    let p : a .0 ≡ hostIn (look prophetKind x) = host-is k (look prophetKind x) (a .0) (a .1) in
+    let q : b .0 ≡ hostsIn look xs = hosts-are look (suc k) xs (b .0) (b .1) in
     sym (ok-same (b .2)) ∙ cons-same p q
 
-module _ (s : List ℕ) (es : List LabelEntry) (list old : List ℕ) (r : ProphetsListed) (e : listedNumbered r ≡ hostCount (heldHosts s es list)) (b : Bool) (t : b ≡ fitsIn (length old) (listedNumbered r)) where
+module _ (look : LookUp) (list old : List ℕ) (r : ProphetsListed) (e : listedNumbered r ≡ hostCount (heldHosts look list)) (b : Bool) (t : b ≡ fitsIn (length old) (listedNumbered r)) where
   -- the test is about the count of all hosts
-  fitted : b ≡ fitsIn (length old) (hostCount (heldHosts s es list))
+  fitted : b ≡ fitsIn (length old) (hostCount (heldHosts look list))
   fitted = t ∙ ap (fitsIn (length old)) e
 
   -- a list that is refused or has too little room leaves the hosts as they were
-  pub write-off : b ≡ false → old ≡ hostsPut (heldHosts s es list) old
+  pub write-off : b ≡ false → old ≡ hostsPut (heldHosts look list) old
   unfolding _>>=_ onOk
-  write-off f = go (heldHosts s es list) (sym fitted ∙ f)
+  write-off f = go (heldHosts look list) (sym fitted ∙ f)
     where
       go : (a : Answer (List ℕ)) → fitsIn (length old) (hostCount a) ≡ false → old ≡ hostsPut a old
       go (ok hs) g = rw (lt-ltb (length old) (length hs) (leb-false _ _ g))
@@ -237,38 +246,38 @@ module _ (s : List ℕ) (es : List LabelEntry) (list old : List ℕ) (r : Prophe
 
   module _ (f : b ≡ true) (p : PlaceFound) (q : p ≡ labelsStart list) where
     -- a list that passes it is accepted, and has room
-    told : (hs : List ℕ) × (heldHosts s es list ≡ ok hs) × (length hs ≤ length old)
+    told : (hs : List ℕ) × (heldHosts look list ≡ ok hs) × (length hs ≤ length old)
     unfolding _>>=_
-    told = go (heldHosts s es list) refl (sym fitted ∙ f)
+    told = go (heldHosts look list) refl (sym fitted ∙ f)
       where
-        go : (a : Answer (List ℕ)) → heldHosts s es list ≡ a → fitsIn (length old) (hostCount a) ≡ true → (hs : List ℕ) × (heldHosts s es list ≡ ok hs) × (length hs ≤ length old)
+        go : (a : Answer (List ℕ)) → heldHosts look list ≡ a → fitsIn (length old) (hostCount a) ≡ true → (hs : List ℕ) × (heldHosts look list ≡ ok hs) × (length hs ≤ length old)
         go (ok hs) k g = (hs, k, leb-true _ _ g)
         go (refused n d) k g = let z : _≡_ {A = ℕ} 0 1 = cc in absurd (omega arith)
 
     module _ (i : ℕ) (g : p ≡ AtPlace i) where
       -- its hosts are those of its labels
-      accepted : heldHosts s es list ≡ ok (hostsIn s es (linesFrom list i))
-      accepted = told .1 ∙ ap ok (hosts-are s es 0 (linesFrom list i) (told .0) (sym (hosts-at s es list p q i g) ∙ told .1))
+      accepted : heldHosts look list ≡ ok (hostsIn look (linesFrom list i))
+      accepted = told .1 ∙ ap ok (hosts-are look 0 (linesFrom list i) (told .0) (sym (hosts-at look list p q i g) ∙ told .1))
 
       -- which fit
-      fit : length (hostsIn s es (linesFrom list i)) ≤ length old
+      fit : length (hostsIn look (linesFrom list i)) ≤ length old
       fit = let w = told in let k = ap length (ok-same (sym (w .1) ∙ accepted)) in omega arith
 
       -- an accepted list has room for each of its labels
       pub write-room : length (linesFrom list i) ≤ length old
-      write-room = let k = length-map (linesFrom list i) (λ x. hostIn (heldAddress s prophetKind x es)) in let l = fit in omega arith
+      write-room = let k = length-map (linesFrom list i) (λ x. hostIn (look prophetKind x)) in let l = fit in omega arith
 
       -- and their hosts stand there afterwards
-      pub write-done : (new : List ℕ) → new ≡ sets old 0 (hostsIn s es (linesFrom list i)) → new ≡ hostsPut (heldHosts s es list) old
+      pub write-done : (new : List ℕ) → new ≡ sets old 0 (hostsIn look (linesFrom list i)) → new ≡ hostsPut (heldHosts look list) old
       unfolding onOk
       write-done new k =
           k
-          ∙ sets-over (hostsIn s es (linesFrom list i)) old fit
-          ∙ rw (accepted, le-ltb (length old) (length (hostsIn s es (linesFrom list i))) fit)
+          ∙ sets-over (hostsIn look (linesFrom list i)) old fit
+          ∙ rw (accepted, le-ltb (length old) (length (hostsIn look (linesFrom list i))) fit)
 
     -- where the labels start nowhere the list was refused
-    pub write-nowhere : p ≡ NoPlace → old ≡ hostsPut (heldHosts s es list) old
+    pub write-nowhere : p ≡ NoPlace → old ≡ hostsPut (heldHosts look list) old
     unfolding onOk
-    write-nowhere g = rw (hosts-nowhere s es list p q g)
+    write-nowhere g = rw (hosts-nowhere look list p q g)
 
 pub ruleset write-laws = (write-off, write-room, write-done, write-nowhere, needs)

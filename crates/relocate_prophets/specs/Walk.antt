@@ -14,8 +14,7 @@ use Rattle.asm.specs.declared.PlaceFound.{PlaceFound}
 use Rattle.asm.specs.declared.PlaceFound.the-variants.{At, Nothing}
 use Rattle.relocate.specs.Labels.{prophetKind}
 use Rattle.relocate.specs.Prophets.{withoutLastEmpty}
-use Rattle.relocate.specs.Columns.{heldAddress}
-use Rattle.relocate.specs.declared.LabelEntry.{LabelEntry}
+use Rattle.relocate.specs.Columns.{LookUp}
 use Rattle.relocate.specs.declared.AddressFound.{AddressFound}
 use Rattle.relocate.specs.declared.AddressFound.the-variants.{At as AtAddress, Nothing as NoAddress}
 
@@ -39,9 +38,9 @@ abbrev pub hostIn : AddressFound → ℕ
 hostIn (AtAddress a) = a .0
 hostIn NoAddress = 0
 
--- the hosts of labels, each of which the table holds
-abbrev pub hostsIn : List ℕ → List LabelEntry → List (List ℕ) → List ℕ
-hostsIn s es xs = map (λ x. hostIn (heldAddress s prophetKind x es)) xs
+-- the hosts of labels, each of which is found
+abbrev pub hostsIn : LookUp → List (List ℕ) → List ℕ
+hostsIn look xs = map (λ x. hostIn (look prophetKind x)) xs
 
 -- a count that was accepted and is at most the room
 abbrev pub fitsIn : ℕ → Answer ℕ → Bool

@@ -1,9 +1,9 @@
-// The prophet list: refusals 8 and 9, and the host of each listed prophet. The label table's five columns are lent one by one.
+// The prophet list: refusals 8 and 9, and the host of each listed prophet. The label table's five columns and its chains are lent one by one.
 use asm::PlaceFound;
 use relocate::AddressFound;
 use relocate::ProphetsListed;
 use relocate::RelocateRefusal;
-use relocate_names::held_address;
+use relocate_chains::chained_address;
 use text::ByteClass;
 use text::Line;
 ghost use mathlib.Core.Path.{_≡_};
@@ -11,6 +11,7 @@ ghost use Prim.Native.Nat.{_≤_};
 ghost use lib.ListN.{length};
 ghost use lib.Seq.{sets};
 ghost use Rattle.relocate.specs.Columns.{entriesOf, heldHostsFrom, heldHosts, hostCount, listedNumbered, hostsPut};
+ghost use Rattle.relocate_chains.specs.Chains.{chainedAddress};
 ghost use Rattle.relocate_prophets.specs.Walk.{linesFrom, lineFrom, labelsStart, hostIn, hostsIn, fitsIn};
 
 // The first line of a list that is not empty.
@@ -65,8 +66,9 @@ fn check_labels(
     starts: &[usize],
     lengths: &[usize],
     addresses: &[u64],
+    chains: &[u16],
 ) -> ProphetsListed
-    ensures { λ r. ⌜ listedNumbered r ≡ hostCount (heldHostsFrom (now (source .entry)) (entriesOf (now (kinds .entry)) (now (mapped .entry)) (now (starts .entry)) (now (lengths .entry)) (now (addresses .entry))) 0 (linesFrom (now (prophets .entry)) start)) ⌝ }
+    ensures { λ r. ⌜ listedNumbered r ≡ hostCount (heldHostsFrom (chainedAddress (now (source .entry)) (entriesOf (now (kinds .entry)) (now (mapped .entry)) (now (starts .entry)) (now (lengths .entry)) (now (addresses .entry))) (now (chains .entry))) 0 (linesFrom (now (prophets .entry)) start)) ⌝ }
 {
     let mut index: usize = 0;
     let mut at = start;
@@ -74,7 +76,17 @@ fn check_labels(
         let line = line_at(prophets, at);
         let end = at + line.length;
         let label = &prophets[at..end];
-        let found = held_address(source, kinds, mapped, starts, lengths, addresses, 2, label);
+        let found = chained_address(
+            source,
+            kinds,
+            mapped,
+            starts,
+            lengths,
+            addresses,
+            chains,
+            2,
+            label,
+        );
         let AddressFound::At(host) = found else {
             return ProphetsListed::Refused(RelocateRefusal::ProphetUnknown(index));
         };
@@ -93,8 +105,9 @@ pub fn check_prophets(
     starts: &[usize],
     lengths: &[usize],
     addresses: &[u64],
+    chains: &[u16],
 ) -> ProphetsListed
-    ensures { λ r. ⌜ listedNumbered r ≡ hostCount (heldHosts (now (source .entry)) (entriesOf (now (kinds .entry)) (now (mapped .entry)) (now (starts .entry)) (now (lengths .entry)) (now (addresses .entry))) (now (prophets .entry))) ⌝ }
+    ensures { λ r. ⌜ listedNumbered r ≡ hostCount (heldHosts (chainedAddress (now (source .entry)) (entriesOf (now (kinds .entry)) (now (mapped .entry)) (now (starts .entry)) (now (lengths .entry)) (now (addresses .entry))) (now (chains .entry))) (now (prophets .entry))) ⌝ }
 {
     let PlaceFound::At(start) = labels_start(prophets) else {
         return ProphetsListed::Refused(RelocateRefusal::ProphetListMalformed);
@@ -108,13 +121,34 @@ pub fn check_prophets(
         starts,
         lengths,
         addresses,
+        chains,
     )
 }
 
-// A host that was found.
-fn host_in(found: AddressFound) -> u64
-    ensures { λ r. ⌜ r ≡ hostIn found ⌝ }
+// The host of a label, 0 where no mapped prophet row names it.
+fn host_of(
+    source: &[u8],
+    kinds: &[u8],
+    mapped: &[bool],
+    starts: &[usize],
+    lengths: &[usize],
+    addresses: &[u64],
+    chains: &[u16],
+    label: &[u8],
+) -> u64
+    ensures { λ r. ⌜ r ≡ hostIn (chainedAddress (now (source .entry)) (entriesOf (now (kinds .entry)) (now (mapped .entry)) (now (starts .entry)) (now (lengths .entry)) (now (addresses .entry))) (now (chains .entry)) 2 (now (label .entry))) ⌝ }
 {
+    let found = chained_address(
+        source,
+        kinds,
+        mapped,
+        starts,
+        lengths,
+        addresses,
+        chains,
+        2,
+        label,
+    );
     match found {
         AddressFound::At(address) => address.0,
         AddressFound::Nothing => 0,
@@ -131,10 +165,11 @@ fn put_hosts(
     starts: &[usize],
     lengths: &[usize],
     addresses: &[u64],
+    chains: &[u16],
     hosts: &mut [u64],
 )
     requires { ⌜ length (linesFrom (now prophets) start) ≤ length (now hosts) ⌝ }
-    ensures { λ _. ⌜ now (hosts .exit) ≡ sets (now (hosts .entry)) 0 (hostsIn (now (source .entry)) (entriesOf (now (kinds .entry)) (now (mapped .entry)) (now (starts .entry)) (now (lengths .entry)) (now (addresses .entry))) (linesFrom (now (prophets .entry)) start)) ⌝ }
+    ensures { λ _. ⌜ now (hosts .exit) ≡ sets (now (hosts .entry)) 0 (hostsIn (chainedAddress (now (source .entry)) (entriesOf (now (kinds .entry)) (now (mapped .entry)) (now (starts .entry)) (now (lengths .entry)) (now (addresses .entry))) (now (chains .entry))) (linesFrom (now (prophets .entry)) start)) ⌝ }
 {
     let mut written: usize = 0;
     let mut at = start;
@@ -142,8 +177,16 @@ fn put_hosts(
         let line = line_at(prophets, at);
         let end = at + line.length;
         let label = &prophets[at..end];
-        let found = held_address(source, kinds, mapped, starts, lengths, addresses, 2, label);
-        hosts[written] = host_in(found);
+        hosts[written] = host_of(
+            source,
+            kinds,
+            mapped,
+            starts,
+            lengths,
+            addresses,
+            chains,
+            label,
+        );
         written += 1;
         at = line.next;
     }
@@ -168,11 +211,21 @@ pub fn write_hosts(
     starts: &[usize],
     lengths: &[usize],
     addresses: &[u64],
+    chains: &[u16],
     hosts: &mut [u64],
 )
-    ensures { λ _. ⌜ now (hosts .exit) ≡ hostsPut (heldHosts (now (source .entry)) (entriesOf (now (kinds .entry)) (now (mapped .entry)) (now (starts .entry)) (now (lengths .entry)) (now (addresses .entry))) (now (prophets .entry))) (now (hosts .entry)) ⌝ }
+    ensures { λ _. ⌜ now (hosts .exit) ≡ hostsPut (heldHosts (chainedAddress (now (source .entry)) (entriesOf (now (kinds .entry)) (now (mapped .entry)) (now (starts .entry)) (now (lengths .entry)) (now (addresses .entry))) (now (chains .entry))) (now (prophets .entry))) (now (hosts .entry)) ⌝ }
 {
-    let listed = check_prophets(source, prophets, kinds, mapped, starts, lengths, addresses);
+    let listed = check_prophets(
+        source,
+        prophets,
+        kinds,
+        mapped,
+        starts,
+        lengths,
+        addresses,
+        chains,
+    );
     if fits(listed, hosts.len()) {
         if let PlaceFound::At(start) = labels_start(prophets) {
             put_hosts(
@@ -184,6 +237,7 @@ pub fn write_hosts(
                 starts,
                 lengths,
                 addresses,
+                chains,
                 hosts,
             );
         }

@@ -5,6 +5,7 @@ use lib.ListN.{length}
 use lib.Seq.{sets}
 use Rattle.relocate.specs.Layout.{sortedInstructions}
 use Rattle.relocate.specs.Columns.{entriesOf}
+use Rattle.relocate_chains.specs.Chains.{chainedAddress}
 use Rattle.encoder_walks.proofs.LineLaws.{rowsFrom}
 use Rattle.encoder_assemble.specs.Written.{heldWords}
 use Rattle.encoder_assemble.proofs.WriteLaws.{write-laws}
@@ -12,10 +13,10 @@ use Rattle.encoder_assemble.proofs.write_words.Statement.{statement}
 use Rattle.encoder_assemble.proofs.write_words.Tie as tie
 
 abbrev Inv-loop : tie.InvT-loop
-Inv-loop source kinds mapped starts lengths addresses start end words₀ at₀ written₀ words at written = (sets words₀ 0 (heldWords source (entriesOf kinds mapped starts lengths addresses) (sortedInstructions source start end)) ≡ sets words written (heldWords source (entriesOf kinds mapped starts lengths addresses) (rowsFrom source start end at))) × (written + length (heldWords source (entriesOf kinds mapped starts lengths addresses) (rowsFrom source start end at)) ≤ length words) × (length words ≡ length words₀)
+Inv-loop source kinds mapped starts lengths addresses chains start end words₀ at₀ written₀ words at written = (sets words₀ 0 (heldWords source (chainedAddress source (entriesOf kinds mapped starts lengths addresses) chains) (sortedInstructions source start end)) ≡ sets words written (heldWords source (chainedAddress source (entriesOf kinds mapped starts lengths addresses) chains) (rowsFrom source start end at))) × (written + length (heldWords source (chainedAddress source (entriesOf kinds mapped starts lengths addresses) chains) (rowsFrom source start end at)) ≤ length words) × (length words ≡ length words₀)
 
 abbrev μ-loop : tie.MeasureT-loop
-μ-loop source kinds mapped starts lengths addresses start end words₀ at₀ written₀ words at written = length source - at
+μ-loop source kinds mapped starts lengths addresses chains start end words₀ at₀ written₀ words at written = length source - at
 
 loop-holds : tie.Need-loop-holds Inv-loop μ-loop
 loop-holds c = (search write-laws, search write-laws, search write-laws)

@@ -7,8 +7,8 @@ use Rattle.encoder_canonical.proofs.look_up.Tie as tie
 name-at-requires : tie.Need-name-at-requires
 name-at-requires c κs = search needs
 
-held-address-requires : tie.Need-held-address-requires
-held-address-requires c κs = search needs
+chained-address-requires : tie.Need-chained-address-requires
+chained-address-requires c κs = search needs
 
 enum-known-found : tie.Need-enum-known-found
 enum-known-found c = search needs
@@ -30,7 +30,7 @@ look-up-spec =
     tie.close
     (tie.spec
     name-at-requires
-    held-address-requires
+    chained-address-requires
     enum-known-found
     new-requires
     enum-told

@@ -4,6 +4,7 @@ use mathlib.Core.Path.{_≡_}
 use lib.ListN.{length}
 use Rattle.relocate.specs.Layout.{sortedInstructions}
 use Rattle.relocate.specs.Columns.{entriesOf}
+use Rattle.relocate_chains.specs.Chains.{chainedAddress}
 use Rattle.encoder_walks.specs.Walks.{heldMisplaced}
 use Rattle.encoder_walks.proofs.LineLaws.{rowsFrom}
 use Rattle.encoder_walks.proofs.WalkLaws.{place-laws}
@@ -11,10 +12,10 @@ use Rattle.encoder_walks.proofs.misplaced_within.Statement.{statement}
 use Rattle.encoder_walks.proofs.misplaced_within.Tie as tie
 
 abbrev Inv-loop : tie.InvT-loop
-Inv-loop source kinds mapped starts lengths addresses start end at₀ index₀ at index = (heldMisplaced source (entriesOf kinds mapped starts lengths addresses) 0 (sortedInstructions source start end) ≡ heldMisplaced source (entriesOf kinds mapped starts lengths addresses) index (rowsFrom source start end at)) × (index ≤ at)
+Inv-loop source kinds mapped starts lengths addresses chains start end at₀ index₀ at index = (heldMisplaced source (chainedAddress source (entriesOf kinds mapped starts lengths addresses) chains) 0 (sortedInstructions source start end) ≡ heldMisplaced source (chainedAddress source (entriesOf kinds mapped starts lengths addresses) chains) index (rowsFrom source start end at)) × (index ≤ at)
 
 abbrev μ-loop : tie.MeasureT-loop
-μ-loop source kinds mapped starts lengths addresses start end at₀ index₀ at index = length source - at
+μ-loop source kinds mapped starts lengths addresses chains start end at₀ index₀ at index = length source - at
 
 loop-holds : tie.Need-loop-holds Inv-loop μ-loop
 loop-holds c = (search place-laws, search place-laws)

@@ -4,6 +4,7 @@ use mathlib.Core.Path.{_≡_}
 use lib.ListN.{length}
 use Rattle.relocate.specs.Layout.{sortedInstructions}
 use Rattle.relocate.specs.Columns.{entriesOf}
+use Rattle.relocate_chains.specs.Chains.{chainedAddress}
 use Rattle.encoder_canonical.specs.Held.{heldProgram}
 use Rattle.encoder_walks.specs.Walks.{heldCount}
 use Rattle.encoder_walks.proofs.LineLaws.{rowsFrom}
@@ -12,10 +13,10 @@ use Rattle.encoder_walks.proofs.resolve_within.Statement.{statement}
 use Rattle.encoder_walks.proofs.resolve_within.Tie as tie
 
 abbrev Inv-loop : tie.InvT-loop
-Inv-loop source kinds mapped starts lengths addresses start end at₀ count₀ at count = (heldCount source (entriesOf kinds mapped starts lengths addresses) (sortedInstructions source start end) ≡ counted count (heldProgram source (entriesOf kinds mapped starts lengths addresses) count (rowsFrom source start end at))) × (count ≤ at)
+Inv-loop source kinds mapped starts lengths addresses chains start end at₀ count₀ at count = (heldCount source (chainedAddress source (entriesOf kinds mapped starts lengths addresses) chains) (sortedInstructions source start end) ≡ counted count (heldProgram source (chainedAddress source (entriesOf kinds mapped starts lengths addresses) chains) count (rowsFrom source start end at))) × (count ≤ at)
 
 abbrev μ-loop : tie.MeasureT-loop
-μ-loop source kinds mapped starts lengths addresses start end at₀ count₀ at count = length source - at
+μ-loop source kinds mapped starts lengths addresses chains start end at₀ count₀ at count = length source - at
 
 loop-holds : tie.Need-loop-holds Inv-loop μ-loop
 loop-holds c = (search count-laws, search count-laws)

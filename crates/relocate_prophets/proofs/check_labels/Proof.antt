@@ -3,16 +3,17 @@ use Prim.Native.Nat.{_-_, _≤_}
 use mathlib.Core.Path.{_≡_}
 use lib.ListN.{length}
 use Rattle.relocate.specs.Columns.{entriesOf, heldHostsFrom, hostCount}
+use Rattle.relocate_chains.specs.Chains.{chainedAddress}
 use Rattle.relocate_prophets.specs.Walk.{linesFrom}
 use Rattle.relocate_prophets.proofs.HostLaws.{counted, count-laws}
 use Rattle.relocate_prophets.proofs.check_labels.Statement.{statement}
 use Rattle.relocate_prophets.proofs.check_labels.Tie as tie
 
 abbrev Inv-loop : tie.InvT-loop
-Inv-loop source prophets start kinds mapped starts lengths addresses index₀ at₀ index at = (hostCount (heldHostsFrom source (entriesOf kinds mapped starts lengths addresses) 0 (linesFrom prophets start)) ≡ counted index (heldHostsFrom source (entriesOf kinds mapped starts lengths addresses) index (linesFrom prophets at))) × (index ≤ at)
+Inv-loop source prophets start kinds mapped starts lengths addresses chains index₀ at₀ index at = (hostCount (heldHostsFrom (chainedAddress source (entriesOf kinds mapped starts lengths addresses) chains) 0 (linesFrom prophets start)) ≡ counted index (heldHostsFrom (chainedAddress source (entriesOf kinds mapped starts lengths addresses) chains) index (linesFrom prophets at))) × (index ≤ at)
 
 abbrev μ-loop : tie.MeasureT-loop
-μ-loop source prophets start kinds mapped starts lengths addresses index₀ at₀ index at = length prophets - at
+μ-loop source prophets start kinds mapped starts lengths addresses chains index₀ at₀ index at = length prophets - at
 
 loop-holds : tie.Need-loop-holds Inv-loop μ-loop
 loop-holds c = (search count-laws, search count-laws)
@@ -32,8 +33,8 @@ part-label-start c = search count-laws
 part-label-end : tie.Need-part-label-end Inv-loop μ-loop
 part-label-end c = search count-laws
 
-held-address-requires : tie.Need-held-address-requires Inv-loop μ-loop
-held-address-requires c κs = search count-laws
+chained-address-requires : tie.Need-chained-address-requires Inv-loop μ-loop
+chained-address-requires c κs = search count-laws
 
 enum-known-found : tie.Need-enum-known-found Inv-loop μ-loop
 enum-known-found c = search count-laws
@@ -68,7 +69,7 @@ check-labels-spec =
     sub-label
     part-label-start
     part-label-end
-    held-address-requires
+    chained-address-requires
     enum-known-found
     enum-told
     returns

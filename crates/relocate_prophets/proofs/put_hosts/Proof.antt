@@ -4,16 +4,17 @@ use mathlib.Core.Path.{_≡_}
 use lib.ListN.{length}
 use lib.Seq.{sets}
 use Rattle.relocate.specs.Columns.{entriesOf}
+use Rattle.relocate_chains.specs.Chains.{chainedAddress}
 use Rattle.relocate_prophets.specs.Walk.{linesFrom, hostsIn}
 use Rattle.relocate_prophets.proofs.HostLaws.{put-laws}
 use Rattle.relocate_prophets.proofs.put_hosts.Statement.{statement}
 use Rattle.relocate_prophets.proofs.put_hosts.Tie as tie
 
 abbrev Inv-loop : tie.InvT-loop
-Inv-loop source prophets start kinds mapped starts lengths addresses hosts₀ written₀ at₀ hosts written at = (sets hosts₀ 0 (hostsIn source (entriesOf kinds mapped starts lengths addresses) (linesFrom prophets start)) ≡ sets hosts written (hostsIn source (entriesOf kinds mapped starts lengths addresses) (linesFrom prophets at))) × (written ≤ at) × (length hosts ≡ length hosts₀) × (written + length (linesFrom prophets at) ≤ length hosts)
+Inv-loop source prophets start kinds mapped starts lengths addresses chains hosts₀ written₀ at₀ hosts written at = (sets hosts₀ 0 (hostsIn (chainedAddress source (entriesOf kinds mapped starts lengths addresses) chains) (linesFrom prophets start)) ≡ sets hosts written (hostsIn (chainedAddress source (entriesOf kinds mapped starts lengths addresses) chains) (linesFrom prophets at))) × (written ≤ at) × (length hosts ≡ length hosts₀) × (written + length (linesFrom prophets at) ≤ length hosts)
 
 abbrev μ-loop : tie.MeasureT-loop
-μ-loop source prophets start kinds mapped starts lengths addresses hosts₀ written₀ at₀ hosts written at = length prophets - at
+μ-loop source prophets start kinds mapped starts lengths addresses chains hosts₀ written₀ at₀ hosts written at = length prophets - at
 
 loop-holds : tie.Need-loop-holds Inv-loop μ-loop
 loop-holds c = (search put-laws, search put-laws, search put-laws, search put-laws)
@@ -33,11 +34,8 @@ part-label-start c = search put-laws
 part-label-end : tie.Need-part-label-end Inv-loop μ-loop
 part-label-end c = search put-laws
 
-held-address-requires : tie.Need-held-address-requires Inv-loop μ-loop
-held-address-requires c κs = search put-laws
-
-host-in-requires : tie.Need-host-in-requires Inv-loop μ-loop
-host-in-requires c κs = search put-laws
+host-of-requires : tie.Need-host-of-requires Inv-loop μ-loop
+host-of-requires c κs = search put-laws
 
 mul-hosts : tie.Need-mul-hosts Inv-loop μ-loop
 mul-hosts c = search put-laws
@@ -72,8 +70,7 @@ put-hosts-spec =
     sub-label
     part-label-start
     part-label-end
-    held-address-requires
-    host-in-requires
+    host-of-requires
     mul-hosts
     slice-write-hosts
     add-written
