@@ -17,7 +17,7 @@ use Rattle.relocate.specs.declared.Layout.{Layout}
 use Rattle.relocate.proofs.LengthLaws.{sorted-length}
 use Rattle.relocate.proofs.StretchLaws.{tabled-measured}
 use Rattle.relocate_chains.specs.Chains.{chainsLeft, chainedAddress}
-use Rattle.relocate_chains.proofs.ChainLaws.{chains-hold}
+use Rattle.relocate_chains.proofs.ChainLaws.{chains-look}
 use Rattle.encoder_assemble.proofs.LabelLaws.{label-bytes}
 
 module _ (s : List ℕ) (n : ℕ) (l : Layout) (h : measured s n ≡ ok l) where
@@ -45,5 +45,4 @@ module _ (s : List ℕ) (n : ℕ) (l : Layout) (h : measured s n ≡ ok l) where
   chains-ready es e chains g =
       let f = table-fits in
       let k : length es ≡ length (tableOf (layoutRows s l)) = ap length e in
-      let held : (kind : ℕ) (x : List ℕ) → chainedAddress s es (chainsLeft s es (replicate 22870 0)) kind x ≡ lookedIn s es kind x = chains-hold s es 22870 (omega arith) in
-      ap (chainedAddress s es) g ∙ (λ i kind x. held kind x i) ∙ ap (lookedIn s) e
+      ap (chainedAddress s es) g ∙ chains-look s es 22870 (omega arith) (omega arith) ∙ ap (lookedIn s) e

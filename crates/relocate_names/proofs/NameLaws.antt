@@ -67,7 +67,7 @@ abbrev nothing : LabelEntry
 nothing = record { kind = 0; mapped = false; start = 0; length = 0; address = record { 0 = 0 } }
 
 -- which the table has there
-entries-at : (ks : List ℕ) (ms : List Bool) (ss ls as′ : List ℕ) (i : ℕ) → i < length ks → i < length ms → i < length ss → i < length ls → i < length as′
+pub entries-at : (ks : List ℕ) (ms : List Bool) (ss ls as′ : List ℕ) (i : ℕ) → i < length ks → i < length ms → i < length ss → i < length ls → i < length as′
     → getD (entriesOf ks ms ss ls as′) i nothing ≡ entryAt ks ms ss ls as′ i
 unfolding entriesOf
 entries-at [] ms ss ls as′ i a b c d e = absurd (omega arith)
@@ -81,7 +81,7 @@ entries-at (k ∷ ks) (m ∷ ms) (s ∷ ss) (l ∷ ls) (n ∷ as′) (suc i) a b
 -- ---- the search
 
 -- the last entry holds the name if it has it
-held-last : (s : List ℕ) (kind : ℕ) (x : List ℕ) (es : List LabelEntry) (e : LabelEntry)
+pub held-last : (s : List ℕ) (kind : ℕ) (x : List ℕ) (es : List LabelEntry) (e : LabelEntry)
     → heldAddress s kind x (es ++ e ∷ []) ≡ laterAddress (cond (entryNames s kind x e) (At (e .address)) Nothing) (heldAddress s kind x es)
 unfolding heldAddress
 held-last s kind x [] e = go (cond (entryNames s kind x e) (At (e .address)) Nothing)

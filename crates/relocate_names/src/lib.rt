@@ -34,7 +34,7 @@ pub fn label_name<'a>(source: &'a [u8], entry: LabelEntry) -> &'a [u8]
 }
 
 // Whether the part of a source that starts at a place and has a length is the name.
-fn same_name(source: &[u8], start: usize, length: usize, name: &[u8]) -> bool
+pub fn same_name(source: &[u8], start: usize, length: usize, name: &[u8]) -> bool
     ensures { λ r. ⌜ r ≡ same (nameAt (now (source .entry)) start length) (now (name .entry)) ⌝ }
 {
     text::same_bytes(name_at(source, start, length), name)
