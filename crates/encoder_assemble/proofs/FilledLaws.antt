@@ -41,19 +41,13 @@ use Rattle.encoder.specs.declared.Totals.{Totals}
 use Rattle.encoder_canonical.specs.Held.{heldProgram}
 use Rattle.encoder_canonical.proofs.HeldLaws.{held-program}
 use Rattle.encoder_canonical.proofs.WordLaws.{program-words}
-use Rattle.encoder_walks.specs.Walks.{heldCount}
-use Rattle.encoder_walks.proofs.ProgramLaws.{placeFound, held-misplaced}
-use Rattle.encoder_checks.specs.Checked.{placeOption, checkedNumbered, checkedOf}
+use Rattle.encoder_checks.specs.Checked.{checkedNumbered, checkedOf}
 use Rattle.encoder_checks.specs.declared.Checked.{Checked}
 use Rattle.encoder_checks.specs.declared.Checked.the-variants.{Is, Refused}
 use Rattle.encoder_checks.proofs.StageLaws.{hostsIn, stages-together}
 use Rattle.encoder_assemble.specs.Written.{heldWords}
 use Rattle.encoder_assemble.specs.Encoded.{encodedTotals}
 use Rattle.encoder_assemble.proofs.WriteLaws.{held-words}
-
-same-place : (o : Option ℕ) → placeOption (placeFound o) ≡ o
-same-place none = refl
-same-place (some k) = refl
 
 -- a count that is refused was refused
 hosts-refused : (x : Answer Accepted) (n d : ℕ) → hostsIn x ≡ refused n d → x ≡ refused n d
@@ -114,11 +108,8 @@ module _ (s list : List ℕ) (n : ℕ) (l : Layout) (h : measured s n ≡ ok l) 
 
   module _ (entries wordroom hostroom : ℕ) where
     together : checkedOf s list look l wordroom hostroom ≡ hostsIn (encodedRows s (layoutRows s l) list (record { entries = entries; words = wordroom; hosts = hostroom }))
-    unfolding heldCount
     together =
-        stages-together s list (layoutRows s l) look l (record { entries = entries; words = wordroom; hosts = hostroom }) hosts-held (ap (λ (x : Answer (List BinaryInstruction)). x >>= λ bs. ok (length bs)) program-held)
-        (λ bs e. ap placeOption (held-misplaced s look 0 (sortedInstructions s (l .start) (l .end)) bs (program-held ∙ e)) ∙ same-place (firstMisplaced 0 bs))
-        words-counted
+        stages-together s list (layoutRows s l) look l (record { entries = entries; words = wordroom; hosts = hostroom }) hosts-held program-held words-counted
 
     module _ (x : Checked) (e : checkedNumbered x ≡ checkedOf s list look l wordroom hostroom) where
       -- a refusal is that of the source

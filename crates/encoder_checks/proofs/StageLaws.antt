@@ -11,10 +11,7 @@ use lib.Dec.{ltb}
 use lib.ListN.{length}
 use Rattle.text.specs.Answer.{Answer, ok, refused, _>>=_, _>>_, refuseIf, refuseAt}
 use Rattle.text.proofs.AnswerLaws.{not-ok, ok-same}
-use Rattle.asm.specs.declared.RowCount.{RowCount}
 use Rattle.asm.specs.declared.AsmRow.{AsmRow}
-use Rattle.asm.specs.declared.PlaceFound.{PlaceFound}
-use Rattle.asm.specs.declared.PlaceFound.the-variants.{At, Nothing}
 use Rattle.relocate.specs.Labels.{labelRows}
 use Rattle.relocate.specs.Relocate.{hostsOf}
 use Rattle.relocate.specs.Layout.{sortedInstructions}
@@ -28,48 +25,40 @@ use Rattle.program.specs.declared.BinaryInstruction.{BinaryInstruction}
 use Rattle.encoder.specs.Canonical.{canonicalProgram, firstMisplaced}
 use Rattle.encoder.specs.Assemble.{Room, Accepted, encodedRows}
 use Rattle.encoder.specs.declared.AssembleRefusal.{AssembleRefusal}
-use Rattle.encoder.specs.declared.AssembleRefusal.the-variants.{Relocate, NumberMisplaced, RoomTooShort}
-use Rattle.encoder_walks.specs.Walks.{resolutionNumbered, heldCount, heldMisplaced}
+use Rattle.encoder.specs.declared.AssembleRefusal.the-variants.{Relocate, RoomTooShort}
+use Rattle.encoder_canonical.specs.Held.{heldProgram}
+use Rattle.encoder_walks.specs.Walks.{resolutionNumbered, heldPassed}
 use Rattle.encoder_walks.specs.declared.Resolution.{Resolution}
-use Rattle.encoder_walks.specs.declared.Resolution.the-variants.{Is as IsResolved, Refused as NotResolved}
-use Rattle.encoder_checks.specs.Checked.{placeOption, checkedNumbered, rowsChecked, checkedOf}
+use Rattle.encoder_walks.specs.declared.Resolution.the-variants.{Passed, Refused as NotResolved}
+use Rattle.encoder_checks.specs.Checked.{checkedNumbered, rowsChecked, checkedOf}
 use Rattle.encoder_checks.specs.declared.Checked.{Checked}
 use Rattle.encoder_checks.specs.declared.Checked.the-variants.{Is, Refused}
 
 -- ---- 10 to 13, one law for each way out
 
-module _ (s : List ℕ) (look : LookUp) (l : Layout) (wordroom hostroom hosts : ℕ) (r : Resolution) (e : resolutionNumbered r ≡ heldCount s look (sortedInstructions s (l .start) (l .end))) where
+module _ (s : List ℕ) (look : LookUp) (l : Layout) (wordroom hostroom hosts : ℕ) (r : Resolution) (e : resolutionNumbered r ≡ heldPassed s look (sortedInstructions s (l .start) (l .end))) where
   pub rows-unresolved : (f : AssembleRefusal) → r ≡ NotResolved f → checkedNumbered (Refused f) ≡ rowsChecked s look l wordroom hostroom hosts
-  unfolding rowsChecked _>>=_
+  unfolding rowsChecked _>>_
   rows-unresolved f g = rw (sym e, g)
 
-  module _ (n : ℕ) (g : r ≡ IsResolved n) (p : PlaceFound) (h : p ≡ heldMisplaced s look 0 (sortedInstructions s (l .start) (l .end))) where
-    placed-rest : rowsChecked s look l wordroom hostroom hosts ≡ (refuseAt (placeOption p) 12 >> (refuseIf (ltb wordroom (l .words) || ltb hostroom hosts) 13 >> ok hosts))
-    unfolding rowsChecked _>>=_
-    placed-rest = rw (sym e, g, h)
+  module _ (g : r ≡ Passed) where
+    roomed : rowsChecked s look l wordroom hostroom hosts ≡ (refuseIf (ltb wordroom (l .words) || ltb hostroom hosts) 13 >> ok hosts)
+    unfolding rowsChecked _>>_
+    roomed = rw (sym e, g)
 
-    pub rows-misplaced : (k : ℕ) (x : RowCount) → p ≡ At k → x ≡ record { 0 = k } → checkedNumbered (Refused (NumberMisplaced x)) ≡ rowsChecked s look l wordroom hostroom hosts
-    unfolding _>>_ refuseAt
-    rows-misplaced k x i j = ap (λ (y : RowCount). refused 12 (y .0)) j ∙ sym (placed-rest ∙ rw i)
+    pub rows-words : wordroom < l .words → checkedNumbered (Refused RoomTooShort) ≡ rowsChecked s look l wordroom hostroom hosts
+    unfolding _>>_ refuseIf
+    rows-words j = sym (roomed ∙ rw (lt-ltb wordroom (l .words) j))
 
-    module _ (i : p ≡ Nothing) where
-      roomed : rowsChecked s look l wordroom hostroom hosts ≡ (refuseIf (ltb wordroom (l .words) || ltb hostroom hosts) 13 >> ok hosts)
-      unfolding _>>_ refuseAt
-      roomed = placed-rest ∙ rw i
+    pub rows-hosts : l .words ≤ wordroom → hostroom < hosts → checkedNumbered (Refused RoomTooShort) ≡ rowsChecked s look l wordroom hostroom hosts
+    unfolding _>>_ refuseIf
+    rows-hosts j k = sym (roomed ∙ rw (le-ltb wordroom (l .words) j, lt-ltb hostroom hosts k))
 
-      pub rows-words : wordroom < l .words → checkedNumbered (Refused RoomTooShort) ≡ rowsChecked s look l wordroom hostroom hosts
-      unfolding _>>_ refuseIf
-      rows-words j = sym (roomed ∙ rw (lt-ltb wordroom (l .words) j))
+    pub rows-pass : l .words ≤ wordroom → hosts ≤ hostroom → checkedNumbered (Is hosts) ≡ rowsChecked s look l wordroom hostroom hosts
+    unfolding _>>_ refuseIf
+    rows-pass j k = sym (roomed ∙ rw (le-ltb wordroom (l .words) j, le-ltb hostroom hosts k))
 
-      pub rows-hosts : l .words ≤ wordroom → hostroom < hosts → checkedNumbered (Refused RoomTooShort) ≡ rowsChecked s look l wordroom hostroom hosts
-      unfolding _>>_ refuseIf
-      rows-hosts j k = sym (roomed ∙ rw (le-ltb wordroom (l .words) j, lt-ltb hostroom hosts k))
-
-      pub rows-pass : l .words ≤ wordroom → hosts ≤ hostroom → checkedNumbered (Is hosts) ≡ rowsChecked s look l wordroom hostroom hosts
-      unfolding _>>_ refuseIf
-      rows-pass j k = sym (roomed ∙ rw (le-ltb wordroom (l .words) j, le-ltb hostroom hosts k))
-
-pub ruleset rows-laws = (rows-unresolved, rows-misplaced, rows-words, rows-hosts, rows-pass, needs)
+pub ruleset rows-laws = (rows-unresolved, rows-words, rows-hosts, rows-pass, needs)
 
 -- ---- 8 and 9 before them
 
@@ -92,21 +81,17 @@ hostsIn x = x >>= λ a. ok (length (a .hosts))
 
 module _ (s list : List ℕ) (rows : List AsmRow) (look : LookUp) (l : Layout) (room : Room)
     (hosts : heldHosts look list ≡ hostsOf s rows list)
-    (count : heldCount s look (sortedInstructions s (l .start) (l .end)) ≡ (canonicalProgram s rows >>= λ bs. ok (length bs)))
-    (placed : (bs : List BinaryInstruction) → canonicalProgram s rows ≡ ok bs → placeOption (heldMisplaced s look 0 (sortedInstructions s (l .start) (l .end))) ≡ firstMisplaced 0 bs)
+    (program : heldProgram s look 0 (sortedInstructions s (l .start) (l .end)) ≡ canonicalProgram s rows)
     (words : (bs : List BinaryInstruction) → canonicalProgram s rows ≡ ok bs → firstMisplaced 0 bs ≡ none → length (programWords bs) ≡ l .words) where
   pub stages-together : checkedOf s list look l (room .words) (room .hosts) ≡ hostsIn (encodedRows s rows list room)
-  unfolding checkedOf rowsChecked encodedRows _>>=_ _>>_ refuseAt refuseIf
+  unfolding checkedOf rowsChecked heldPassed encodedRows _>>=_ _>>_ refuseAt refuseIf
   stages-together =
-      ap (λ (x : Answer (List ℕ)). hostCount x >>= λ h. stage h (heldCount s look (sortedInstructions s (l .start) (l .end)))) hosts
-      ∙ ap (λ (c : Answer ℕ). hostCount (hostsOf s rows list) >>= λ h. stage h c) count
+      ap (λ (x : Answer (List ℕ)). hostCount x >>= λ h. stage h (heldProgram s look 0 (sortedInstructions s (l .start) (l .end)))) hosts
+      ∙ ap (λ (c : Answer (List BinaryInstruction)). hostCount (hostsOf s rows list) >>= λ h. stage h c) program
       ∙ go (hostsOf s rows list) (canonicalProgram s rows) refl
     where
-      m : Option ℕ
-      m = placeOption (heldMisplaced s look 0 (sortedInstructions s (l .start) (l .end)))
-
-      stage : ℕ → Answer ℕ → Answer ℕ
-      stage h c = c >>= λ n. (refuseAt m 12 >> (refuseIf (ltb (room .words) (l .words) || ltb (room .hosts) h) 13 >> ok h))
+      stage : ℕ → Answer (List BinaryInstruction) → Answer ℕ
+      stage h c = (c >>= λ bs. refuseAt (firstMisplaced 0 bs) 12) >> (refuseIf (ltb (room .words) (l .words) || ltb (room .hosts) h) 13 >> ok h)
 
       last : (hs : List ℕ) (bs : List BinaryInstruction) → canonicalProgram s rows ≡ ok bs → (o : Option ℕ) → firstMisplaced 0 bs ≡ o
           → (refuseAt o 12 >> (refuseIf (ltb (room .words) (l .words) || ltb (room .hosts) (length hs)) 13 >> ok (length hs)))
@@ -119,8 +104,8 @@ module _ (s list : List ℕ) (rows : List AsmRow) (look : LookUp) (l : Layout) (
           end false = refl
 
       go : (x : Answer (List ℕ)) (y : Answer (List BinaryInstruction)) → canonicalProgram s rows ≡ y
-          → ((x >>= λ hs. ok (length hs)) >>= λ h. stage h (y >>= λ bs. ok (length bs)))
+          → ((x >>= λ hs. ok (length hs)) >>= λ h. stage h y)
           ≡ hostsIn (x >>= λ hs. y >>= λ bs. (refuseAt (firstMisplaced 0 bs) 12 >> (refuseIf (ltb (room .words) (length (programWords bs)) || ltb (room .hosts) (length hs)) 13 >> ok (record { labels = length (labelRows 0 rows); program = bs; words = programWords bs; hosts = hs }))))
       go (refused n d) y e = refl
       go (ok hs) (refused n d) e = refl
-      go (ok hs) (ok bs) e = rw (placed bs e) (last hs bs e (firstMisplaced 0 bs) refl)
+      go (ok hs) (ok bs) e = last hs bs e (firstMisplaced 0 bs) refl

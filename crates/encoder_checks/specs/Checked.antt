@@ -2,22 +2,15 @@
 use Prim.Native.Nat.{ℕ}
 use mathlib.Core.List.{List}
 use mathlib.Core.Bool.{_||_}
-use mathlib.Core.Option.{Option, none, some}
 use lib.Dec.{ltb}
-use Rattle.text.specs.Answer.{Answer, ok, refused, _>>=_, _>>_, refuseIf, refuseAt}
-use Rattle.asm.specs.declared.PlaceFound.{PlaceFound}
-use Rattle.asm.specs.declared.PlaceFound.the-variants.{At, Nothing}
+use Rattle.text.specs.Answer.{Answer, ok, refused, _>>=_, _>>_, refuseIf}
 use Rattle.relocate.specs.Layout.{sortedInstructions}
 use Rattle.relocate.specs.Columns.{LookUp, heldHosts, hostCount}
 use Rattle.relocate.specs.declared.Layout.{Layout}
 use Rattle.encoder.specs.Assemble.{assembleNumber, assembleDetail}
-use Rattle.encoder_walks.specs.Walks.{heldCount, heldMisplaced}
+use Rattle.encoder_walks.specs.Walks.{heldPassed}
 use Rattle.encoder_checks.specs.declared.Checked.{Checked}
 use Rattle.encoder_checks.specs.declared.Checked.the-variants.{Is, Refused}
-
-abbrev pub placeOption : PlaceFound → Option ℕ
-placeOption (At k) = some k
-placeOption Nothing = none
 
 abbrev pub checkedNumbered : Checked → Answer ℕ
 checkedNumbered (Is n) = ok n
@@ -26,8 +19,7 @@ checkedNumbered (Refused f) = refused (assembleNumber f) (assembleDetail f)
 -- 10 and 11, 12, 13, where so many prophets are listed
 unfoldable pub rowsChecked : List ℕ → LookUp → Layout → ℕ → ℕ → ℕ → Answer ℕ
 rowsChecked s look l wordroom hostroom hosts = do
-  n ← heldCount s look (sortedInstructions s (l .start) (l .end))
-  refuseAt (placeOption (heldMisplaced s look 0 (sortedInstructions s (l .start) (l .end)))) 12
+  heldPassed s look (sortedInstructions s (l .start) (l .end))
   refuseIf (ltb wordroom (l .words) || ltb hostroom hosts) 13
   ok hosts
 

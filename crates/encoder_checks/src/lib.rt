@@ -1,6 +1,4 @@
 // Refusals 8 to 13 of assembling, each before a word is written: the names, memory operands, numbers and room of assembler/src/encoder.rs.
-use asm::PlaceFound;
-use asm::RowCount;
 use encoder::AssembleRefusal;
 use encoder_walks::Resolution;
 use relocate::Layout;
@@ -47,24 +45,7 @@ fn check_rows(
     );
     match resolved {
         Resolution::Refused(refusal) => return Checked::Refused(refusal),
-        Resolution::Is(n) => {}
-    }
-    let place = encoder_walks::misplaced(
-        source,
-        kinds,
-        mapped,
-        starts,
-        lengths,
-        addresses,
-        chains,
-        start,
-        end,
-    );
-    match place {
-        PlaceFound::At(k) => {
-            return Checked::Refused(AssembleRefusal::NumberMisplaced(RowCount::new(k)));
-        }
-        PlaceFound::Nothing => {}
+        Resolution::Passed => {}
     }
     if wordroom < layout.words {
         return Checked::Refused(AssembleRefusal::RoomTooShort);

@@ -1,40 +1,38 @@
--- Refusals 10 to 12 over the instruction rows of a source, names looked up in the label table.
-use Prim.Native.Nat.{ℕ, suc}
-use mathlib.Core.List.{List, [], _∷_}
-use mathlib.Core.Bool.{Bool, false, _||_, cond}
-use lib.ListN.{length}
-use Rattle.text.specs.Answer.{Answer, ok, refused, _>>=_}
+-- Refusals 10 to 12 over the instruction rows of a source, each name looked up.
+use Prim.Native.Nat.{ℕ}
+use mathlib.Core.List.{List}
+use mathlib.Core.Bool.{Bool, _||_, cond}
+use mathlib.Core.Option.{Option, none, some}
+use Rattle.text.specs.Answer.{Answer, ok, refused, _>>=_, refuseAt}
+use Rattle.asm.specs.Survey.{orPlace}
 use Rattle.asm.specs.declared.OlaAsmInstruction.{OlaAsmInstruction}
 use Rattle.asm.specs.declared.PlaceFound.{PlaceFound}
 use Rattle.asm.specs.declared.PlaceFound.the-variants.{At, Nothing}
+use Rattle.relocate.specs.Columns.{LookUp}
 use Rattle.program.specs.Instructions.{isNumber}
 use Rattle.program.specs.declared.BinaryInstruction.{BinaryInstruction}
-use Rattle.relocate.specs.Columns.{LookUp}
+use Rattle.encoder.specs.Canonical.{firstMisplaced}
 use Rattle.encoder.specs.Assemble.{assembleNumber, assembleDetail}
-use Rattle.encoder_canonical.specs.Held.{heldCanonical, heldProgram}
-use Rattle.encoder_canonical.specs.declared.Canonical.{Canonical}
-use Rattle.encoder_canonical.specs.declared.Canonical.the-variants.{Is as Made, Unknown, Misused}
+use Rattle.encoder_canonical.specs.Held.{heldProgram}
 use Rattle.encoder_walks.specs.declared.Resolution.{Resolution}
-use Rattle.encoder_walks.specs.declared.Resolution.the-variants.{Is, Refused}
+use Rattle.encoder_walks.specs.declared.Resolution.the-variants.{Passed, Refused}
 
-abbrev pub resolutionNumbered : Resolution → Answer ℕ
-resolutionNumbered (Is n) = ok n
+abbrev pub resolutionNumbered : Resolution → Answer (Unit {0})
+resolutionNumbered Passed = ok tt
 resolutionNumbered (Refused f) = refused (assembleNumber f) (assembleDetail f)
 
--- 10 or 11, or how many instructions there are
-unfoldable pub heldCount : List ℕ → LookUp → List OlaAsmInstruction → Answer ℕ
-heldCount s look is = heldProgram s look 0 is >>= λ bs. ok (length bs)
+-- 10 and 11, "whichever instruction comes first"; then 12, "the first over all instructions"
+unfoldable pub heldPassed : List ℕ → LookUp → List OlaAsmInstruction → Answer (Unit {0})
+heldPassed s look is = heldProgram s look 0 is >>= λ bs. refuseAt (firstMisplaced 0 bs) 12
 
 -- "a number, names resolved, in op0 or dst"
 abbrev pub isNumberAside : BinaryInstruction → Bool
 isNumberAside b = isNumber (b .op0) || isNumber (b .dst)
 
-abbrev pub isMisplaced : Canonical → Bool
-isMisplaced (Made b) = isNumberAside b
-isMisplaced Unknown = false
-isMisplaced Misused = false
+-- the first such instruction so far, where instruction k comes next
+abbrev pub asideNext : PlaceFound → BinaryInstruction → ℕ → PlaceFound
+asideNext first b k = orPlace first (cond (isNumberAside b) (At k) Nothing)
 
--- 12: the first such instruction, counted from k
-unfoldable pub heldMisplaced : List ℕ → LookUp → ℕ → List OlaAsmInstruction → PlaceFound
-heldMisplaced s look k [] = Nothing
-heldMisplaced s look k (i ∷ is) = cond (isMisplaced (heldCanonical s look i)) (At k) (heldMisplaced s look (suc k) is)
+abbrev pub placeOption : PlaceFound → Option ℕ
+placeOption (At k) = some k
+placeOption Nothing = none

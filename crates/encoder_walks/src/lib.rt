@@ -1,4 +1,4 @@
-// Refusals 10 to 12: walks over the canonical instructions in sorted order, by the label table's five columns and its chains.
+// Refusals 10 to 12: one walk over the canonical instructions in sorted order, by the label table's five columns and its chains.
 use asm::PlaceFound;
 use asm::RowCount;
 use encoder::AssembleRefusal;
@@ -8,94 +8,16 @@ use vm_operands::OlaOperand;
 ghost use mathlib.Core.Path.{_≡_};
 ghost use Prim.Native.Nat.{_≤_};
 ghost use lib.ListN.{length};
+ghost use Rattle.text.specs.Answer.{refuseAt};
 ghost use Rattle.relocate.specs.Layout.{sortedInstructions};
 ghost use Rattle.relocate.specs.Columns.{entriesOf};
 ghost use Rattle.relocate_chains.specs.Chains.{chainedAddress};
-ghost use Rattle.encoder_walks.specs.Walks.{isNumberAside, heldCount, heldMisplaced, resolutionNumbered};
+ghost use Rattle.encoder_walks.specs.Walks.{resolutionNumbered, heldPassed, isNumberAside, asideNext, placeOption};
 
-// How many instructions a source has, where every name is known and every memory operand is one.
+// Whether refusals 10 to 12 let a source pass.
 pub enum Resolution {
-    Is(usize),
+    Passed,
     Refused(AssembleRefusal),
-}
-
-// Refusals 10 and 11 over a walk, where main's scope lies within the source.
-fn resolve_within(
-    source: &[u8],
-    kinds: &[u8],
-    mapped: &[bool],
-    starts: &[usize],
-    lengths: &[usize],
-    addresses: &[u64],
-    chains: &[u16],
-    start: usize,
-    end: usize,
-) -> Resolution
-    requires { ⌜ (start ≤ end) × (end ≤ length (now source)) ⌝ }
-    ensures { λ r. ⌜ resolutionNumbered r ≡ heldCount (now (source .entry)) (chainedAddress (now (source .entry)) (entriesOf (now (kinds .entry)) (now (mapped .entry)) (now (starts .entry)) (now (lengths .entry)) (now (addresses .entry))) (now (chains .entry))) (sortedInstructions (now (source .entry)) start end) ⌝ }
-{
-    let mut at: usize = 0;
-    let mut count: usize = 0;
-    while at < source.len() {
-        let line = encoder_lines::canonical_at(
-            source,
-            kinds,
-            mapped,
-            starts,
-            lengths,
-            addresses,
-            chains,
-            start,
-            end,
-            at,
-        );
-        let found = line.found;
-        at = line.next;
-        match found {
-            CanonicalLine::Skip => {}
-            CanonicalLine::Is(instruction) => count += 1,
-            CanonicalLine::Unknown => {
-                return Resolution::Refused(AssembleRefusal::NameUnknown(RowCount::new(count)));
-            }
-            CanonicalLine::Misused => {
-                return Resolution::Refused(AssembleRefusal::MemoryOperand(RowCount::new(count)));
-            }
-        }
-    }
-    Resolution::Is(count)
-}
-
-// Refusals 10 and 11, whichever instruction comes first, where main's scope runs from start to end.
-pub fn resolve(
-    source: &[u8],
-    kinds: &[u8],
-    mapped: &[bool],
-    starts: &[usize],
-    lengths: &[usize],
-    addresses: &[u64],
-    chains: &[u16],
-    start: usize,
-    end: usize,
-) -> Resolution
-    ensures { λ r. ⌜ resolutionNumbered r ≡ heldCount (now (source .entry)) (chainedAddress (now (source .entry)) (entriesOf (now (kinds .entry)) (now (mapped .entry)) (now (starts .entry)) (now (lengths .entry)) (now (addresses .entry))) (now (chains .entry))) (sortedInstructions (now (source .entry)) start end) ⌝ }
-{
-    if end < start {
-        return Resolution::Is(0);
-    }
-    if source.len() < end {
-        return Resolution::Is(0);
-    }
-    resolve_within(
-        source,
-        kinds,
-        mapped,
-        starts,
-        lengths,
-        addresses,
-        chains,
-        start,
-        end,
-    )
 }
 
 // Whether a place that may hold none holds a number: op0 or dst.
@@ -113,8 +35,35 @@ fn number_aside(instruction: BinaryInstruction) -> bool
     false
 }
 
-// The first number in op0 or dst over a walk, where main's scope lies within the source.
-fn misplaced_within(
+// The first instruction so far that has a number in op0 or dst, where one with an index comes next.
+fn aside_next(first: PlaceFound, instruction: BinaryInstruction, index: usize) -> PlaceFound
+    ensures { λ r. ⌜ r ≡ asideNext first instruction index ⌝ }
+{
+    match first {
+        PlaceFound::At(k) => PlaceFound::At(k),
+        PlaceFound::Nothing => {
+            if number_aside(instruction) {
+                return PlaceFound::At(index);
+            }
+            PlaceFound::Nothing
+        }
+    }
+}
+
+// Refusal 12 where an instruction has a number in op0 or dst.
+fn all_placed(first: PlaceFound) -> Resolution
+    ensures { λ r. ⌜ resolutionNumbered r ≡ refuseAt (placeOption first) 12 ⌝ }
+{
+    match first {
+        PlaceFound::At(k) => {
+            Resolution::Refused(AssembleRefusal::NumberMisplaced(RowCount::new(k)))
+        }
+        PlaceFound::Nothing => Resolution::Passed,
+    }
+}
+
+// Refusals 10 to 12 over a walk, where main's scope lies within the source.
+fn resolve_within(
     source: &[u8],
     kinds: &[u8],
     mapped: &[bool],
@@ -124,12 +73,13 @@ fn misplaced_within(
     chains: &[u16],
     start: usize,
     end: usize,
-) -> PlaceFound
+) -> Resolution
     requires { ⌜ (start ≤ end) × (end ≤ length (now source)) ⌝ }
-    ensures { λ r. ⌜ r ≡ heldMisplaced (now (source .entry)) (chainedAddress (now (source .entry)) (entriesOf (now (kinds .entry)) (now (mapped .entry)) (now (starts .entry)) (now (lengths .entry)) (now (addresses .entry))) (now (chains .entry))) 0 (sortedInstructions (now (source .entry)) start end) ⌝ }
+    ensures { λ r. ⌜ resolutionNumbered r ≡ heldPassed (now (source .entry)) (chainedAddress (now (source .entry)) (entriesOf (now (kinds .entry)) (now (mapped .entry)) (now (starts .entry)) (now (lengths .entry)) (now (addresses .entry))) (now (chains .entry))) (sortedInstructions (now (source .entry)) start end) ⌝ }
 {
     let mut at: usize = 0;
     let mut index: usize = 0;
+    let mut aside = PlaceFound::Nothing;
     while at < source.len() {
         let line = encoder_lines::canonical_at(
             source,
@@ -148,20 +98,22 @@ fn misplaced_within(
         match found {
             CanonicalLine::Skip => {}
             CanonicalLine::Is(instruction) => {
-                if number_aside(instruction) {
-                    return PlaceFound::At(index);
-                }
+                aside = aside_next(aside, instruction, index);
                 index += 1;
             }
-            CanonicalLine::Unknown => index += 1,
-            CanonicalLine::Misused => index += 1,
+            CanonicalLine::Unknown => {
+                return Resolution::Refused(AssembleRefusal::NameUnknown(RowCount::new(index)));
+            }
+            CanonicalLine::Misused => {
+                return Resolution::Refused(AssembleRefusal::MemoryOperand(RowCount::new(index)));
+            }
         }
     }
-    PlaceFound::Nothing
+    all_placed(aside)
 }
 
-// The first instruction, names resolved, that has a number in op0 or dst.
-pub fn misplaced(
+// Refusals 10 and 11, whichever instruction comes first, and then 12, where main's scope runs from start to end.
+pub fn resolve(
     source: &[u8],
     kinds: &[u8],
     mapped: &[bool],
@@ -171,16 +123,16 @@ pub fn misplaced(
     chains: &[u16],
     start: usize,
     end: usize,
-) -> PlaceFound
-    ensures { λ r. ⌜ r ≡ heldMisplaced (now (source .entry)) (chainedAddress (now (source .entry)) (entriesOf (now (kinds .entry)) (now (mapped .entry)) (now (starts .entry)) (now (lengths .entry)) (now (addresses .entry))) (now (chains .entry))) 0 (sortedInstructions (now (source .entry)) start end) ⌝ }
+) -> Resolution
+    ensures { λ r. ⌜ resolutionNumbered r ≡ heldPassed (now (source .entry)) (chainedAddress (now (source .entry)) (entriesOf (now (kinds .entry)) (now (mapped .entry)) (now (starts .entry)) (now (lengths .entry)) (now (addresses .entry))) (now (chains .entry))) (sortedInstructions (now (source .entry)) start end) ⌝ }
 {
     if end < start {
-        return PlaceFound::Nothing;
+        return Resolution::Passed;
     }
     if source.len() < end {
-        return PlaceFound::Nothing;
+        return Resolution::Passed;
     }
-    misplaced_within(
+    resolve_within(
         source,
         kinds,
         mapped,

@@ -1,4 +1,4 @@
--- `encoder_walks::resolve_within` meets its contract: after each line the count so far and what is left make the count of the whole.
+-- `encoder_walks::resolve_within` meets its contract: after each line what is passed so far and what is left make what the whole passes.
 use Prim.Native.Nat.{_-_, _≤_}
 use mathlib.Core.Path.{_≡_}
 use lib.ListN.{length}
@@ -6,65 +6,71 @@ use Rattle.relocate.specs.Layout.{sortedInstructions}
 use Rattle.relocate.specs.Columns.{entriesOf}
 use Rattle.relocate_chains.specs.Chains.{chainedAddress}
 use Rattle.encoder_canonical.specs.Held.{heldProgram}
-use Rattle.encoder_walks.specs.Walks.{heldCount}
+use Rattle.encoder_walks.specs.Walks.{heldPassed}
 use Rattle.encoder_walks.proofs.LineLaws.{rowsFrom}
-use Rattle.encoder_walks.proofs.WalkLaws.{counted, count-laws}
+use Rattle.encoder_walks.proofs.WalkLaws.{passed, passed-laws}
 use Rattle.encoder_walks.proofs.resolve_within.Statement.{statement}
 use Rattle.encoder_walks.proofs.resolve_within.Tie as tie
 
 abbrev Inv-loop : tie.InvT-loop
-Inv-loop source kinds mapped starts lengths addresses chains start end at₀ count₀ at count = (heldCount source (chainedAddress source (entriesOf kinds mapped starts lengths addresses) chains) (sortedInstructions source start end) ≡ counted count (heldProgram source (chainedAddress source (entriesOf kinds mapped starts lengths addresses) chains) count (rowsFrom source start end at))) × (count ≤ at)
+Inv-loop source kinds mapped starts lengths addresses chains start end at₀ index₀ aside₀ at index aside = (heldPassed source (chainedAddress source (entriesOf kinds mapped starts lengths addresses) chains) (sortedInstructions source start end) ≡ passed aside index (heldProgram source (chainedAddress source (entriesOf kinds mapped starts lengths addresses) chains) index (rowsFrom source start end at))) × (index ≤ at)
 
 abbrev μ-loop : tie.MeasureT-loop
-μ-loop source kinds mapped starts lengths addresses chains start end at₀ count₀ at count = length source - at
+μ-loop source kinds mapped starts lengths addresses chains start end at₀ index₀ aside₀ at index aside = length source - at
 
 loop-holds : tie.Need-loop-holds Inv-loop μ-loop
-loop-holds c = (search count-laws, search count-laws)
+loop-holds c = (search passed-laws, search passed-laws)
 
 canonical-at-requires : tie.Need-canonical-at-requires Inv-loop μ-loop
-canonical-at-requires c κs = search count-laws
+canonical-at-requires c κs = search passed-laws
 
 enum-told : tie.Need-enum-told Inv-loop μ-loop
-enum-told c = search count-laws
+enum-told c = search passed-laws
 
 loop-less : tie.Need-loop-less Inv-loop μ-loop
-loop-less c = search count-laws
+loop-less c = search passed-laws
 
 loop-again : tie.Need-loop-again Inv-loop μ-loop
-loop-again c = (search count-laws, search count-laws)
+loop-again c = (search passed-laws, search passed-laws)
 
 enum-known-found : tie.Need-enum-known-found Inv-loop μ-loop
-enum-known-found c = search count-laws
+enum-known-found c = search passed-laws
 
-add-count : tie.Need-add-count Inv-loop μ-loop
-add-count c = search count-laws
+aside-next-requires : tie.Need-aside-next-requires Inv-loop μ-loop
+aside-next-requires c κs = search passed-laws
+
+add-index : tie.Need-add-index Inv-loop μ-loop
+add-index c = search passed-laws
 
 loop-less-2 : tie.Need-loop-less-2 Inv-loop μ-loop
-loop-less-2 c = search count-laws
+loop-less-2 c = search passed-laws
 
 loop-again-2 : tie.Need-loop-again-2 Inv-loop μ-loop
-loop-again-2 c = (search count-laws, search count-laws)
+loop-again-2 c = (search passed-laws, search passed-laws)
 
 enum-told-2 : tie.Need-enum-told-2 Inv-loop μ-loop
-enum-told-2 c = search count-laws
+enum-told-2 c = search passed-laws
 
 new-requires : tie.Need-new-requires Inv-loop μ-loop
-new-requires c κs = search count-laws
+new-requires c κs = search passed-laws
 
 returns : tie.Need-returns Inv-loop μ-loop
-returns c = search count-laws
+returns c = search passed-laws
 
 enum-told-3 : tie.Need-enum-told-3 Inv-loop μ-loop
-enum-told-3 c = search count-laws
+enum-told-3 c = search passed-laws
 
 new-requires-2 : tie.Need-new-requires-2 Inv-loop μ-loop
-new-requires-2 c κs = search count-laws
+new-requires-2 c κs = search passed-laws
 
 returns-2 : tie.Need-returns-2 Inv-loop μ-loop
-returns-2 c = search count-laws
+returns-2 c = search passed-laws
+
+all-placed-requires : tie.Need-all-placed-requires Inv-loop μ-loop
+all-placed-requires c κs = search passed-laws
 
 returns-3 : tie.Need-returns-3 Inv-loop μ-loop
-returns-3 c = search count-laws
+returns-3 c = search passed-laws
 
 pub resolve-within-spec : {M : Type 1} → statement M
 resolve-within-spec =
@@ -78,7 +84,8 @@ resolve-within-spec =
     loop-less
     loop-again
     enum-known-found
-    add-count
+    aside-next-requires
+    add-index
     loop-less-2
     loop-again-2
     enum-told-2
@@ -87,4 +94,5 @@ resolve-within-spec =
     enum-told-3
     new-requires-2
     returns-2
+    all-placed-requires
     returns-3)
