@@ -15,8 +15,8 @@
  * will do. Nothing is allocated, nothing is kept between calls, and calls from several threads do not disturb each other.
  *
  * The stack that a call takes, measured on x86-64 with a source of 65,536 bytes, a prophet list of 16,384 and their bytecode:
- *    ola_assemble          less than 589,824 bytes: it has a label table of its own there
- *    ola_assemble_parts    less than 4,096 bytes
+ *    ola_assemble          less than 655,360 bytes: it has a label table of its own there
+ *    ola_assemble_parts    less than 65,536 bytes: it chains the table's names there, to find them quickly
  *    every other           less than 1,024 bytes
  */
 #ifndef OLA_H
