@@ -23,7 +23,7 @@ use Rattle.asm.specs.Rows.{oneMore, operandsOf}
 use Rattle.asm.specs.declared.OlaAsmOperand.{OlaAsmOperand}
 use Rattle.asm.specs.declared.OperandRead.{OperandRead}
 use Rattle.asm.specs.declared.OperandRead.the-variants.{Is as IsOperand, Unreadable as NoOperand}
-use Rattle.asm.proofs.PieceLaws.{pieces-end, pieces-next}
+use Rattle.asm_laws.proofs.PieceLaws.{pieces-end, pieces-next}
 use Rattle.asm_instructions.specs.Listed.{atMostThree}
 use Rattle.asm_instructions.specs.declared.RowOperands.{RowOperands}
 use Rattle.asm_instructions.specs.declared.RowOperands.the-variants.{Zero, One, Two, Three, Other}

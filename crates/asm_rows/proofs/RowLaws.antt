@@ -42,7 +42,7 @@ use Rattle.asm_instructions.proofs.RowOperands.{the-type as operandsType}
 use types.Run.{OneOf, miss}
 use denote.Enum.Declared.{tagOf}
 use Rattle.asm_rows.specs.Found.{pieceAt, ahead, operandsFrom, rowWith}
-use Rattle.asm.proofs.PieceLaws.{part-taken}
+use Rattle.asm_laws.proofs.PieceLaws.{part-taken}
 use Rattle.asm_rows.proofs.OperandLaws.{cut, piece-ends, end-fits, no-piece, first-piece}
 
 -- ---- rows

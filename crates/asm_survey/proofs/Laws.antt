@@ -26,7 +26,7 @@ use Rattle.asm.specs.declared.AsmRow.the-variants.{Instruction, LabelCall, Labe
 use Rattle.asm.specs.declared.PlaceFound.{PlaceFound}
 use Rattle.asm.specs.declared.PlaceFound.the-variants.{At, Nothing}
 use Rattle.asm.specs.declared.Tally.{Tally}
-use Rattle.asm.proofs.JoinLaws.{or-nothing}
+use Rattle.asm_laws.proofs.JoinLaws.{or-nothing}
 use Rattle.asm_survey.specs.Small.{Small, callTally}
 
 -- ---- main's name

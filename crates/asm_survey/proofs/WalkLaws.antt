@@ -23,8 +23,8 @@ use Rattle.asm.specs.declared.RowCount.{RowCount}
 use Rattle.asm.specs.declared.PlaceFound.the-variants.{Nothing}
 use Rattle.asm.specs.declared.Surveyed.the-variants.{Is, Unreadable}
 use Rattle.asm.specs.declared.Tally.{Tally}
-use Rattle.asm.proofs.JoinLaws.{joined-settled, joined-surveys-assoc, none-joined-surveys, joined-surveys-none, tally-settled}
-use Rattle.asm.proofs.StepLaws.{survey-end, survey-blank, survey-row, survey-unreadable, next-further, instruction-room}
+use Rattle.asm_laws.proofs.JoinLaws.{joined-settled, joined-surveys-assoc, none-joined-surveys, joined-surveys-none, tally-settled}
+use Rattle.asm_laws.proofs.StepLaws.{survey-end, survey-blank, survey-row, survey-unreadable, next-further, instruction-room}
 use Rattle.asm_survey.specs.Small.{Small}
 use Rattle.asm_survey.proofs.Laws.{counted-le}
 

@@ -18,7 +18,7 @@ use Rattle.asm.specs.declared.OlaAsmOperand.{OlaAsmOperand}
 use Rattle.asm.specs.declared.OlaAsmOperand.the-variants.{Empty, ImmediateOperand, RegisterOperand, RegisterWithOffset, RegisterWithFactoredRegOffset, SpecialReg, Label, Identifier}
 use Rattle.asm.specs.declared.OlaAsmInstruction.{OlaAsmInstruction}
 use Rattle.asm.specs.declared.AsmRow.{AsmRow}
-use Rattle.asm.proofs.NumberLaws.{OperandBelow, OperandsBelow}
+use Rattle.asm_laws.proofs.NumberLaws.{OperandBelow, OperandsBelow}
 use Rattle.relocate.specs.Labels.{LabelRow, addressOf}
 use Rattle.relocate.specs.Relocate.{sortedOf, tabled, hostsOf}
 use Rattle.program.specs.Instructions.{made, aNumber, isNumber, carried, isMemory}

@@ -14,8 +14,8 @@ use Rattle.relocate.specs.Layout.{measured, layoutRows}
 use Rattle.relocate.specs.Columns.{LookUp, lookedIn}
 use Rattle.relocate.specs.declared.LabelEntry.{LabelEntry}
 use Rattle.relocate.specs.declared.Layout.{Layout}
-use Rattle.relocate.proofs.LengthLaws.{sorted-length}
-use Rattle.relocate.proofs.StretchLaws.{tabled-measured}
+use Rattle.relocate_laws.proofs.LengthLaws.{sorted-length}
+use Rattle.relocate_laws.proofs.StretchLaws.{tabled-measured}
 use Rattle.relocate_chains.specs.Chains.{chainsLeft, chainedAddress}
 use Rattle.relocate_chains.proofs.ChainLaws.{chains-look}
 use Rattle.encoder_assemble.proofs.LabelLaws.{label-bytes}

@@ -26,9 +26,9 @@ use Rattle.relocate.specs.declared.Layout.{Layout}
 use Rattle.relocate.specs.declared.Measured.{Measured}
 use Rattle.relocate.specs.declared.Measured.the-variants.{Is as IsMeasured, Refused as NotMeasured}
 use Rattle.relocate.specs.declared.RelocateRefusal.{RelocateRefusal}
-use Rattle.relocate.proofs.ColumnLaws.{held-hosts, entries-columns, taken-over}
-use Rattle.relocate.proofs.StretchLaws.{tabled-measured, measured-order, measured-within, measured-labels, measured-words}
-use Rattle.relocate.proofs.WalkLaws.{sorted-start}
+use Rattle.relocate_laws.proofs.ColumnLaws.{held-hosts, entries-columns, taken-over}
+use Rattle.relocate_laws.proofs.StretchLaws.{tabled-measured, measured-order, measured-within, measured-labels, measured-words}
+use Rattle.relocate_laws.proofs.WalkLaws.{sorted-start}
 use Rattle.program.specs.Words.{programWords}
 use Rattle.program.specs.declared.BinaryInstruction.{BinaryInstruction}
 use Rattle.encoder.specs.Canonical.{canonicalProgram, firstMisplaced}

@@ -23,13 +23,13 @@ use Rattle.asm.specs.declared.AsmRow.{AsmRow}
 use Rattle.asm.specs.declared.AsmRow.the-variants.{Instruction, LabelCall, LabelJmp, LabelProphet}
 use Rattle.asm.specs.declared.RowRead.{RowRead}
 use Rattle.asm.specs.declared.RowRead.the-variants.{Is, Unreadable}
-use Rattle.asm.proofs.LengthLaws.{rowBytes, source-bytes}
-use Rattle.asm.proofs.PlaceLaws.{arranged-if-related}
+use Rattle.asm_laws.proofs.LengthLaws.{rowBytes, source-bytes}
+use Rattle.asm_laws.proofs.PlaceLaws.{arranged-if-related}
 use Rattle.relocate.specs.Scopes.{mainCount}
 use Rattle.relocate.specs.Labels.{labelRows}
 use Rattle.relocate.specs.Relocate.{firstAbove127, rowsRead, sortedOf}
-use Rattle.relocate.proofs.LengthLaws.{ReadAs, none-read, one-read, rows-read-as}
-use Rattle.relocate.proofs.ScopeLaws.{main-count, main-cut, sorted-labels}
+use Rattle.relocate_laws.proofs.LengthLaws.{ReadAs, none-read, one-read, rows-read-as}
+use Rattle.relocate_laws.proofs.ScopeLaws.{main-count, main-cut, sorted-labels}
 
 -- ---- the bytes of a label row
 

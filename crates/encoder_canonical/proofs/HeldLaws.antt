@@ -17,7 +17,7 @@ use Rattle.asm.specs.declared.OlaAsmInstruction.{OlaAsmInstruction}
 use Rattle.asm.specs.declared.AsmRow.{AsmRow}
 use Rattle.relocate.specs.Labels.{LabelRow, callKind, jmpKind, addressOf, tableOf}
 use Rattle.relocate.specs.Columns.{lookedIn}
-use Rattle.relocate.proofs.ColumnLaws.{foundBy, held-label}
+use Rattle.relocate_laws.proofs.ColumnLaws.{foundBy, held-label}
 use Rattle.program.specs.Instructions.{made}
 use Rattle.program.specs.declared.BinaryInstruction.{BinaryInstruction}
 use Rattle.encoder.specs.Canonical.{Names, namesOf, holderOf, lookedUp, plain, general, anchored, memory, canonicalBy, canonicalOf, canonicalFrom}

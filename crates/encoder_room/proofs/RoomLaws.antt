@@ -11,7 +11,7 @@ use Rattle.text.specs.Answer.{Answer, ok, refused, _>>=_, _>>_, refuseIf}
 use Rattle.asm.specs.declared.AsmRow.{AsmRow}
 use Rattle.relocate.specs.Labels.{labelRows}
 use Rattle.relocate.specs.Relocate.{sortedOf, tabled}
-use Rattle.relocate.proofs.LengthLaws.{sorted-length}
+use Rattle.relocate_laws.proofs.LengthLaws.{sorted-length}
 use Rattle.relocate_names.specs.Shortest.{shortestOf}
 use Rattle.encoder.specs.Assemble.{Accepted, numbered, totalsOf, encodedRows, assembled, assembledTotals, wordsLeft, hostsLeft}
 use Rattle.encoder.specs.declared.Assembly.{Assembly}

@@ -11,7 +11,7 @@ use Rattle.asm.specs.declared.AsmRow.the-variants.{Instruction, LabelCall, Labe
 use Rattle.asm.specs.declared.LineRead.{LineRead}
 use Rattle.asm.specs.declared.LineRead.the-variants.{Blank, Row, Unreadable}
 use Rattle.relocate.specs.Layout.{sortedRowAt, sortedFrom, sortedInstructions}
-use Rattle.relocate.proofs.WalkLaws.{sorted-end, sorted-blank, sorted-row, sorted-unreadable, sorted-next-past, sorted-next-within, sorted-room}
+use Rattle.relocate_laws.proofs.WalkLaws.{sorted-end, sorted-blank, sorted-row, sorted-unreadable, sorted-next-past, sorted-next-within, sorted-room}
 use Rattle.relocate.specs.Columns.{LookUp}
 use Rattle.encoder_canonical.specs.Held.{heldCanonical}
 use Rattle.encoder_canonical.specs.declared.Canonical.{Canonical}

@@ -9,10 +9,10 @@ use Rattle.text.specs.Answer.{ok}
 use Rattle.text.proofs.All.{All}
 use Rattle.asm.specs.Rows.{instructions}
 use Rattle.asm.specs.declared.AsmRow.{AsmRow}
-use Rattle.asm.proofs.NumberLaws.{OperandsBelow, numbers-below}
-use Rattle.asm.proofs.ShapeLaws.{MemoryShaped, memory-shaped}
+use Rattle.asm_laws.proofs.NumberLaws.{OperandsBelow, numbers-below}
+use Rattle.asm_laws.proofs.ShapeLaws.{MemoryShaped, memory-shaped}
 use Rattle.relocate.specs.Relocate.{sortedOf}
-use Rattle.relocate.proofs.LengthLaws.{address-below, sorted-instructions}
+use Rattle.relocate_laws.proofs.LengthLaws.{address-below, sorted-instructions}
 use Rattle.program.specs.Words.{programWords, emittedLength}
 use Rattle.program.specs.Bytecode.{bytecodeOf}
 use Rattle.program.proofs.CanonicalForm.{CanonicalForm, InOrder}

@@ -21,8 +21,8 @@ use Rattle.asm.specs.declared.OlaAsmOperand.the-variants.{Empty}
 use Rattle.asm.specs.declared.OlaAsmInstruction.{OlaAsmInstruction}
 use Rattle.asm.specs.declared.AsmRow.{AsmRow}
 use Rattle.vm_opcodes.proofs.Laws.{every-operation}
-use Rattle.asm.proofs.LengthLaws.{leastBytes, least-four, least-six, isBare, is-bare, BareIsEmpty}
-use Rattle.relocate.proofs.LengthLaws.{sorted-length, sorted-bytes, sorted-bare}
+use Rattle.asm_laws.proofs.LengthLaws.{leastBytes, least-four, least-six, isBare, is-bare, BareIsEmpty}
+use Rattle.relocate_laws.proofs.LengthLaws.{sorted-length, sorted-bytes, sorted-bare}
 use Rattle.program.specs.Instructions.{isNumber, isMemory}
 use Rattle.program.specs.Words.{programWords, emittedLength}
 use Rattle.program.specs.declared.BinaryInstruction.{BinaryInstruction}

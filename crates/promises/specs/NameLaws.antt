@@ -19,7 +19,7 @@ use Rattle.asm.specs.declared.OlaAsmOperand.{OlaAsmOperand}
 use Rattle.asm.specs.declared.OlaAsmOperand.the-variants.{Empty, ImmediateOperand, RegisterOperand, RegisterWithOffset, RegisterWithFactoredRegOffset, SpecialReg, Label, Identifier}
 use Rattle.asm.specs.declared.OlaAsmInstruction.{OlaAsmInstruction}
 use Rattle.asm.specs.declared.AsmRow.{AsmRow}
-use Rattle.asm.proofs.ShapeLaws.{MemoryShaped}
+use Rattle.asm_laws.proofs.ShapeLaws.{MemoryShaped}
 use Rattle.relocate.specs.Labels.{LabelRow, callKind, jmpKind, addressOf}
 use Rattle.program.specs.Instructions.{aNumber, isNumber, isMemory}
 use Rattle.program.specs.Words.{emittedLength, wordsBefore}

@@ -19,8 +19,8 @@ use Rattle.relocate.specs.Layout.{measured, sortedRowAt}
 use Rattle.relocate.specs.Columns.{tableLeft}
 use Rattle.relocate.specs.declared.LabelEntry.{LabelEntry}
 use Rattle.relocate.specs.declared.Layout.{Layout}
-use Rattle.relocate.proofs.StretchLaws.{measured-short, measured-room}
-use Rattle.relocate.proofs.WalkLaws.{sorted-end, sorted-blank, sorted-row, sorted-unreadable}
+use Rattle.relocate_laws.proofs.StretchLaws.{measured-short, measured-room}
+use Rattle.relocate_laws.proofs.WalkLaws.{sorted-end, sorted-blank, sorted-row, sorted-unreadable}
 use Rattle.relocate_rows.specs.declared.Progress.{Progress}
 use Rattle.relocate_rows.specs.Entries.{after, entriesAfter}
 use Rattle.relocate_rows.proofs.LaidLaws.{entriesFrom, allEntries, laid, not-tabled}

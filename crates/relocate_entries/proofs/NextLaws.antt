@@ -16,7 +16,7 @@ use Rattle.asm.specs.declared.RowAt.{RowAt}
 use Rattle.relocate.specs.Layout.{sortedRowAt}
 use Rattle.relocate.specs.declared.LabelEntry.{LabelEntry}
 use Rattle.relocate.specs.declared.Layout.{Layout}
-use Rattle.relocate.proofs.WalkLaws.{sorted-next-past, sorted-next-within}
+use Rattle.relocate_laws.proofs.WalkLaws.{sorted-next-past, sorted-next-within}
 use Rattle.relocate_rows.specs.declared.Progress.{Progress}
 use Rattle.relocate_rows.specs.declared.Advanced.{Advanced}
 use Rattle.relocate_rows.specs.declared.Advanced.the-variants.{Is as IsProgress, Beyond}

@@ -22,7 +22,7 @@ use Rattle.text.proofs.AnswerLaws.{not-ok, ok-same, ok-bind, sets-over}
 use Rattle.asm.specs.Parts.{nextLine}
 use Rattle.asm.specs.declared.PlaceFound.{PlaceFound}
 use Rattle.asm.specs.declared.PlaceFound.the-variants.{At as AtPlace, Nothing as NoPlace}
-use Rattle.asm.proofs.StepLaws.{next-further}
+use Rattle.asm_laws.proofs.StepLaws.{next-further}
 use Rattle.relocate.specs.Labels.{prophetKind}
 use Rattle.relocate.specs.Prophets.{listedLabels}
 use Rattle.relocate.specs.Columns.{LookUp, heldHost, heldHostsFrom, heldHosts, hostCount, listedNumbered, hostsPut}

@@ -12,8 +12,8 @@ use Rattle.relocate.specs.Relocate.{tabled}
 use Rattle.relocate.specs.Layout.{measured, layoutRows, sortedFrom}
 use Rattle.relocate.specs.declared.LabelEntry.{LabelEntry}
 use Rattle.relocate.specs.declared.Layout.{Layout}
-use Rattle.relocate.proofs.StretchLaws.{tabled-measured, measured-order, measured-within, measured-room, measured-labels, measured-instructions}
-use Rattle.relocate.proofs.WalkLaws.{sorted-start}
+use Rattle.relocate_laws.proofs.StretchLaws.{tabled-measured, measured-order, measured-within, measured-room, measured-labels, measured-instructions}
+use Rattle.relocate_laws.proofs.WalkLaws.{sorted-start}
 use Rattle.relocate_rows.specs.declared.Progress.{Progress}
 use Rattle.relocate_rows.specs.Entries.{entriesAfter}
 use Rattle.relocate_rows.proofs.EntryLaws.{table-entries}

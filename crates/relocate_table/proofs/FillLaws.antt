@@ -20,7 +20,7 @@ use Rattle.relocate.specs.Layout.{measured, sortedRowAt, sortedFrom}
 use Rattle.relocate.specs.Columns.{columnLeft, kindOf, mappedOf, startOf, lengthOf, addressIn}
 use Rattle.relocate.specs.declared.LabelEntry.{LabelEntry}
 use Rattle.relocate.specs.declared.Layout.{Layout}
-use Rattle.relocate.proofs.WalkLaws.{sorted-end, sorted-blank, sorted-row, sorted-unreadable, sorted-next-past, sorted-next-within, sorted-room}
+use Rattle.relocate_laws.proofs.WalkLaws.{sorted-end, sorted-blank, sorted-row, sorted-unreadable, sorted-next-past, sorted-next-within, sorted-room}
 use Rattle.relocate_rows.specs.declared.Progress.{Progress}
 use Rattle.relocate_rows.specs.declared.EntryFound.{EntryFound}
 use Rattle.relocate_rows.specs.Entries.{entryOfRow, after, largestCount, entryList, entriesAfter}

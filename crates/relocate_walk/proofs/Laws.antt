@@ -13,7 +13,7 @@ use Rattle.text.proofs.Laws.{part-counts}
 use Rattle.asm.specs.Rows.{rowAt}
 use Rattle.asm.specs.declared.LineRead.{LineRead}
 use Rattle.asm.specs.declared.RowAt.{RowAt}
-use Rattle.asm.proofs.StepLaws.{next-further}
+use Rattle.asm_laws.proofs.StepLaws.{next-further}
 use Rattle.relocate.specs.Layout.{further, sortedRowAt}
 
 made : (x : LineRead) (a b : ℕ) → a ≡ b → _≡_ {A = RowAt} (record { read = x; next = a }) (record { read = x; next = b })

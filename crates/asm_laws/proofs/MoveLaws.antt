@@ -19,15 +19,15 @@ use Rattle.text.proofs.PartLaws.{parts-some}
 use Rattle.text.proofs.SumLaws.{spaced, parts-total}
 use Rattle.text.proofs.All.{All, none-left, one-more}
 use Rattle.vm_mnemonics.specs.Mnemonics.{operationOf}
 use Rattle.asm.specs.Parts.{Part, placed, filledParts, withoutComment, piecesFrom, linePieces, rowPieces, sourcePieces, nameAt}
 use Rattle.asm.specs.Rows.{operandsOf, arrangedIf, isCallRow, isPairRow, labelRow, orElseRow, rowOf, rowRead, readRows}
 use Rattle.asm.specs.Survey.{isMainRow, countRows, mainStart, mainEnd, tallyOf, surveyFrom, surveyOf, joinedSurveys, movedSurvey}
 use Rattle.asm.specs.declared.AsmRow.{AsmRow}
 use Rattle.asm.specs.declared.AsmRow.the-variants.{Instruction, LabelCall, LabelJmp, LabelProphet}
 use Rattle.asm.specs.declared.RowRead.{RowRead}
 use Rattle.asm.specs.declared.RowRead.the-variants.{Is, Unreadable}
-use Rattle.asm.proofs.StepLaws.{surveyPieces, survey-append}
-use Rattle.asm.proofs.PlaceLaws.{movedPart, movedRow, movedRows, arranged-if-related, placed-moved, rows-moved, read-moved, tally-moved}
+use Rattle.asm_laws.proofs.StepLaws.{surveyPieces, survey-append}
+use Rattle.asm_laws.proofs.PlaceLaws.{movedPart, movedRow, movedRows, arranged-if-related, placed-moved, rows-moved, read-moved, tally-moved}
 
 -- ---- the pieces of two texts
 

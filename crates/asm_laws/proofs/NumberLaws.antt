@@ -16,15 +16,15 @@ use Rattle.vm_operands.proofs.Laws.{number-below}
 use Rattle.vm_operands.specs.declared.ImmediateValue.{ImmediateValue}
 use Rattle.vm_operands.specs.declared.ImmediateFound.{ImmediateFound}
 use Rattle.vm_operands.specs.declared.ImmediateFound.the-variants.{Is as IsNumber, Nothing as NoNumber}
 use Rattle.asm.specs.Parts.{Part}
 use Rattle.asm.specs.Operands.{Shape, withNumber, ofRegister, ofSpecial, shapes, firstMatch, inner}
 use Rattle.asm.specs.Rows.{rowOf}
 use Rattle.asm.specs.declared.OlaAsmOperand.{OlaAsmOperand}
 use Rattle.asm.specs.declared.OlaAsmOperand.the-variants.{Empty, ImmediateOperand, RegisterOperand, RegisterWithOffset, RegisterWithFactoredRegOffset, SpecialReg, Label, Identifier}
 use Rattle.asm.specs.declared.OlaAsmInstruction.{OlaAsmInstruction}
 use Rattle.asm.specs.declared.AsmRow.the-variants.{Instruction}
 use Rattle.asm.specs.declared.RowRead.the-variants.{Is}
-use Rattle.asm.proofs.ShapeLaws.{OperandHolds, row-arranged}
+use Rattle.asm_laws.proofs.ShapeLaws.{OperandHolds, row-arranged}
 
 -- the number, offset or factor of an operand is below p
 abbrev pub OperandBelow : OlaAsmOperand → Type 0

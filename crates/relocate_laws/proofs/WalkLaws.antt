@@ -15,9 +15,9 @@ use Rattle.asm.specs.declared.AsmRow.{AsmRow}
 use Rattle.asm.specs.declared.AsmRow.the-variants.{Instruction}
 use Rattle.asm.specs.declared.LineRead.the-variants.{Blank, Row, Unreadable}
 use Rattle.asm.specs.declared.RowAt.{RowAt}
-use Rattle.asm.proofs.StepLaws.{next-further, instruction-room}
+use Rattle.asm_laws.proofs.StepLaws.{next-further, instruction-room}
 use Rattle.relocate.specs.Layout.{further, sortedRowAt, stretchRows, sortedFrom}
-use Rattle.relocate.proofs.StretchLaws.{stretch-end, stretch-blank, stretch-row, stretch-unreadable}
+use Rattle.relocate_laws.proofs.StretchLaws.{stretch-end, stretch-blank, stretch-row, stretch-unreadable}
 
 module _ (s : List ℕ) (start end v : ℕ) (a : start ≤ end) (b : end ≤ length s) where
   -- after the second stretch only the third is left

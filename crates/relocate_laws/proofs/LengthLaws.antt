@@ -22,11 +22,11 @@ use Rattle.asm.specs.declared.AsmRow.{AsmRow}
 use Rattle.asm.specs.declared.AsmRow.the-variants.{Instruction, LabelCall, LabelJmp, LabelProphet}
 use Rattle.asm.specs.declared.RowRead.{RowRead}
 use Rattle.asm.specs.declared.RowRead.the-variants.{Is, Unreadable}
-use Rattle.asm.proofs.LengthLaws.{rowBytes, source-bytes, leastBytes, least-four, BareIsEmpty, row-least, row-bare}
+use Rattle.asm_laws.proofs.LengthLaws.{rowBytes, source-bytes, leastBytes, least-four, BareIsEmpty, row-least, row-bare}
 use Rattle.relocate.specs.Scopes.{sortedRows, mainCount}
 use Rattle.relocate.specs.Labels.{labelRows, addressOf}
 use Rattle.relocate.specs.Relocate.{firstAbove127, rowsRead, sortedOf, tabled}
-use Rattle.relocate.proofs.SortLaws.{sorted-total, sorted-all}
+use Rattle.relocate_laws.proofs.SortLaws.{sorted-total, sorted-all}
 
 -- ---- what an accepted source says
 

@@ -15,18 +15,18 @@ use Rattle.text.specs.Lines.{isFeed, notFeed}
 use Rattle.text.specs.Answer.{Answer, ok, refused, _>>=_}
 use Rattle.text.proofs.Laws.{scan-le}
 use Rattle.text.proofs.PartLaws.{parts-whole, parts-first, line-ended, line-last, line-within, line-next-more}
 use Rattle.asm.specs.Parts.{Part, placed, filledParts, piecesFrom, linePieces, rowPieces, piecesAfter, lineAt, nextLine}
 use Rattle.asm.specs.Rows.{rowOf, ofRow, lineOf, rowRead, readRows}
 use Rattle.asm.specs.Survey.{tallyOf, surveyFrom, joinedSurveys}
 use Rattle.asm.specs.declared.OlaAsmInstruction.{OlaAsmInstruction}
 use Rattle.asm.specs.declared.AsmRow.{AsmRow}
 use Rattle.asm.specs.declared.AsmRow.the-variants.{Instruction}
 use Rattle.asm.specs.declared.RowRead.{RowRead}
 use Rattle.asm.specs.declared.RowRead.the-variants.{Is, Unreadable}
 use Rattle.asm.specs.declared.LineRead.the-variants.{Blank, Row, Unreadable as NoRow}
 use Rattle.asm.specs.declared.Tally.{Tally}
-use Rattle.asm.proofs.LengthLaws.{line-bytes, row-least, least-four}
-use Rattle.asm.proofs.JoinLaws.{tally-append}
+use Rattle.asm_laws.proofs.LengthLaws.{line-bytes, row-least, least-four}
+use Rattle.asm_laws.proofs.JoinLaws.{tally-append}
 
 -- ---- rows counted from a row on
 

@@ -25,17 +25,17 @@ use Rattle.asm.specs.declared.RowRead.the-variants.{Is, Unreadable}
 use Rattle.asm.specs.declared.LineRead.the-variants.{Blank, Row, Unreadable as NoRow}
 use Rattle.asm.specs.declared.PlaceFound.{PlaceFound}
 use Rattle.asm.specs.declared.Tally.{Tally}
-use Rattle.asm.proofs.StepLaws.{pieces-step, pieces-row, line-blank, line-row, line-unreadable}
-use Rattle.asm.proofs.PlaceLaws.{arranged-if-related}
+use Rattle.asm_laws.proofs.StepLaws.{pieces-step, pieces-row, line-blank, line-row, line-unreadable}
+use Rattle.asm_laws.proofs.PlaceLaws.{arranged-if-related}
 use Rattle.relocate.specs.Scopes.{sortedRows, mainCount}
 use Rattle.relocate.specs.Labels.{labelRows}
 use Rattle.relocate.specs.Relocate.{firstAbove127, rowsRead, sortedOf, tabled}
 use Rattle.relocate.specs.Layout.{placeOr, layoutOf, measured, onRead, readable, stretchRows, layoutRows}
 use Rattle.relocate.specs.declared.Layout.{Layout}
-use Rattle.relocate.proofs.SortLaws.{sorted-total}
-use Rattle.relocate.proofs.LengthLaws.{ReadAs, none-read, one-read, rows-read-as}
-use Rattle.relocate.proofs.CutLaws.{pieces-past, cut-pieces}
-use Rattle.relocate.proofs.ScopeLaws.{Ends, at-call, at-end, MainCut, main-cut, main-count, cut-sorted, sorted-labels, sorted-instructions-count}
+use Rattle.relocate_laws.proofs.SortLaws.{sorted-total}
+use Rattle.relocate_laws.proofs.LengthLaws.{ReadAs, none-read, one-read, rows-read-as}
+use Rattle.relocate_laws.proofs.CutLaws.{pieces-past, cut-pieces}
+use Rattle.relocate_laws.proofs.ScopeLaws.{Ends, at-call, at-end, MainCut, main-cut, main-count, cut-sorted, sorted-labels, sorted-instructions-count}
 
 -- ---- a stretch, line by line
 

@@ -15,8 +15,8 @@ use Rattle.text.specs.Pieces.{notSpace}
 use Rattle.text.proofs.Laws.{scan-le}
 use Rattle.text.proofs.PartLaws.{line-ended, line-last}
 use Rattle.asm.specs.Parts.{Part, withoutComment, piecesFrom, linePieces, piecesAfter, lineAt, nextLine}
-use Rattle.asm.proofs.PieceLaws.{part-taken, nothing, space-first, spaces-first, piece-front}
-use Rattle.asm.proofs.StepLaws.{nothing-after, pieces-step, pieces-row, next-further}
+use Rattle.asm_laws.proofs.PieceLaws.{part-taken, nothing, space-first, spaces-first, piece-front}
+use Rattle.asm_laws.proofs.StepLaws.{nothing-after, pieces-step, pieces-row, next-further}
 
 -- ---- how far a scan goes in the front of a text, and in what stands behind it
 

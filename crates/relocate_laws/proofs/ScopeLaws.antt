@@ -14,10 +14,10 @@ use Rattle.asm.specs.declared.AsmRow.{AsmRow}
 use Rattle.asm.specs.declared.AsmRow.the-variants.{Instruction, LabelCall, LabelJmp, LabelProphet}
 use Rattle.asm.specs.declared.PlaceFound.{PlaceFound}
 use Rattle.asm.specs.declared.PlaceFound.the-variants.{At, Nothing}
-use Rattle.asm.proofs.JoinLaws.{count-append}
+use Rattle.asm_laws.proofs.JoinLaws.{count-append}
 use Rattle.relocate.specs.Scopes.{Scope, Cut, inFront, cutAtCalls, scopesOf, isMain, isOther, scopesThat, rowsOfScopes, sortedRows, mainCount}
 use Rattle.relocate.specs.Labels.{labelRows}
-use Rattle.relocate.proofs.SortLaws.{cut-rows, sorted-total}
+use Rattle.relocate_laws.proofs.SortLaws.{cut-rows, sorted-total}
 
 -- ---- the scope ahead of the first call label
 
