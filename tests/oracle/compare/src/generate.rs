@@ -12,8 +12,9 @@ pub struct Generator {
     pub draw: fn(&mut Random) -> Case,
 }
 
-pub const GENERATORS: [Generator; 11] = [
-    Generator { name: "scopes, labels and prophets", share: 22, draw: scopes },
+pub const GENERATORS: [Generator; 12] = [
+    Generator { name: "scopes, labels and prophets", share: 20, draw: scopes },
+    Generator { name: "many names", share: 2, draw: many_names },
     Generator { name: "whitespace, line endings, comments, numbers", share: 15, draw: spelling },
     Generator { name: "damaged sources", share: 22, draw: damaged_source },
     Generator { name: "soup of bytes and pieces", share: 8, draw: soup },
@@ -220,6 +221,22 @@ fn plainly(rows: &[Row]) -> Vec<u8> {
 
 fn scopes(r: &mut Random) -> Case {
     let (rows, prophets) = program(r, 4, 8, PLAIN);
+    Case::Source { source: plainly(&rows), prophets: list(r, &prophets) }
+}
+
+/// A source of many names, so that some of them fall into one bucket of the port's chains.
+fn many_names(r: &mut Random) -> Case {
+    let letter = |r: &mut Random| (b'a' + r.below(26) as u8) as char;
+    let calls: Vec<String> = (0..1 + r.below(60)).map(|_| format!("{}{}", letter(r), letter(r))).collect();
+    let labels: Vec<String> = (0..1 + r.below(60)).map(|_| format!(".LBL{}_{}", r.below(100), r.below(100))).collect();
+    let prophets: Vec<String> = (0..r.below(8)).map(|_| format!(".PROPHET{}_{}", r.below(100), r.below(100))).collect();
+    let mut rows: Vec<Row> = calls.iter().chain(&labels).chain(&prophets).map(|name| vec![format!("{name}:")]).collect();
+    for _ in 0..rows.len() {
+        rows.push(operation(r, &calls, &labels, CLEAN));
+    }
+    r.shuffle(&mut rows);
+    rows.insert(r.below(rows.len() + 1), vec!["main:".to_string()]);
+    rows.push(operation(r, &calls, &labels, CLEAN));
     Case::Source { source: plainly(&rows), prophets: list(r, &prophets) }
 }
 
