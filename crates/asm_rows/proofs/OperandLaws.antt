@@ -19,15 +19,19 @@ use Rattle.text.proofs.Laws.{part-from}
 use Rattle.text.proofs.PartLaws.{piece-within}
 use Rattle.asm.specs.Parts.{Part, piecesFrom}
 use Rattle.asm.specs.Operands.{operandOf}
-use Rattle.asm.specs.Rows.{oneMore, operandsOf}
+use Rattle.asm.specs.Rows.{arranged, arrangedIf, oneMore, operandsOf, ofRow}
 use Rattle.asm.specs.declared.OlaAsmOperand.{OlaAsmOperand}
 use Rattle.asm.specs.declared.OperandRead.{OperandRead}
 use Rattle.asm.specs.declared.OperandRead.the-variants.{Is as IsOperand, Unreadable as NoOperand}
 use Rattle.asm_laws.proofs.PieceLaws.{pieces-end, pieces-next}
-use Rattle.asm_instructions.specs.Listed.{atMostThree}
-use Rattle.asm_instructions.specs.declared.RowOperands.{RowOperands}
-use Rattle.asm_instructions.specs.declared.RowOperands.the-variants.{Zero, One, Two, Three, Other}
-use Rattle.asm_rows.specs.Found.{pieceAt, asOperand, nextOperand, ahead, operandsFrom}
+use Rattle.asm.specs.declared.LineRead.{LineRead}
+use Rattle.asm.specs.declared.LineRead.the-variants.{Unreadable as NoRow}
+use Rattle.vm_opcodes.specs.Operations.{rowPlaces}
+use Rattle.vm_opcodes.specs.declared.OlaOpcode.{OlaOpcode}
+use Rattle.vm_opcodes.specs.declared.OpcodeFound.the-variants.{Is as IsOpcode}
+use Rattle.vm_opcodes.specs.declared.RowPlaces.{RowPlaces}
+use Rattle.vm_opcodes.specs.declared.RowPlaces.the-variants.{DstOp0Op1, DstOp1, DstMemory, MemoryDst, Op0Op1, Op1, Bare}
+use Rattle.asm_rows.specs.Found.{pieceAt, asOperand, nextOperand, ahead, lineAfter, rowGiven}
 use Rattle.asm_rows.specs.declared.NextOperand.{NextOperand}
 use Rattle.asm_rows.specs.declared.NextOperand.the-variants.{Is, Bad, End}
 
@@ -131,15 +135,14 @@ follows l i q qs e = go (eqb (pieceAt l i .length) 0) refl
         sym b ∙ ap (λ (k : ℕ). piecesFrom k (drop k l)) n
 
 module _ (l : List ℕ) (i : ℕ) (r : NextOperand) (e : r ≡ nextOperand (piecesFrom i (drop i l))) where
-  ended : r ≡ End → operandsOf (piecesFrom i (drop i l)) ≡ some []
-  unfolding operandsOf
+  ended : r ≡ End → piecesFrom i (drop i l) ≡ []
   ended f = go (piecesFrom i (drop i l)) (sym e ∙ f)
     where
-      go : (ps : List Part) → nextOperand ps ≡ End → operandsOf ps ≡ some []
+      go : (ps : List Part) → nextOperand ps ≡ End → ps ≡ []
       go [] h = refl
       go (q ∷ qs) h = other (operandOf q) h
         where
-          other : (o : OperandRead) → asOperand o (q .start + length (q .text)) ≡ End → operandsOf (q ∷ qs) ≡ some []
+          other : (o : OperandRead) → asOperand o (q .start + length (q .text)) ≡ End → q ∷ qs ≡ []
           other (IsOperand o) k = cc
           other NoOperand k = cc
 
@@ -170,54 +173,85 @@ module _ (l : List ℕ) (i : ℕ) (r : NextOperand) (e : r ≡ nextOperand (piec
               rw (k, a, follows l i q qs g, b)
           other NoOperand k m = cc
 
-  pub zero-end : r ≡ End → Zero ≡ operandsFrom [] l i
-  unfolding operandsFrom
-  zero-end f = rw (ended f)
+  -- a row ends after the operands already read
+  module _ (o : OlaOpcode) (x : LineRead) (a : OlaAsmOperand) (f : r ≡ End) where
+    pub one-end : x ≡ ofRow (arrangedIf (IsOpcode o) (some (a ∷ []))) → x ≡ lineAfter o (a ∷ []) l i
+    unfolding lineAfter operandsOf
+    one-end g = rw (ended f) g
 
-  module _ (a b c : OlaAsmOperand) where
-    pub one-end : r ≡ End → One a ≡ operandsFrom (a ∷ []) l i
-    unfolding operandsFrom
-    one-end f = rw (ended f)
+    pub two-end : (b : OlaAsmOperand) → x ≡ ofRow (arrangedIf (IsOpcode o) (some (a ∷ b ∷ []))) → x ≡ lineAfter o (a ∷ b ∷ []) l i
+    unfolding lineAfter operandsOf
+    two-end b g = rw (ended f) g
 
-    pub two-end : r ≡ End → Two a b ≡ operandsFrom (a ∷ b ∷ []) l i
-    unfolding operandsFrom
-    two-end f = rw (ended f)
+  pub any-bad : (o : OlaOpcode) (xs : List OlaAsmOperand) → r ≡ Bad → NoRow ≡ lineAfter o xs l i
+  unfolding lineAfter arrangedIf
+  any-bad o xs f = rw (unread f)
 
-    pub three-end : r ≡ End → Three a b c ≡ operandsFrom (a ∷ b ∷ c ∷ []) l i
-    unfolding operandsFrom
-    three-end f = rw (ended f)
-
-  pub any-bad : (xs : List OlaAsmOperand) → r ≡ Bad → Other ≡ operandsFrom xs l i
-  unfolding operandsFrom
-  any-bad xs f = rw (unread f)
-
-  module _ (o : OlaAsmOperand) (next : ℕ) (f : r ≡ Is o next) where
+  module _ (o : OlaAsmOperand) (next : ℕ) (f : r ≡ Is o next) (p : OlaOpcode) where
     -- an operand more is one more of those already read
-    carried : (xs : List OlaAsmOperand) → operandsFrom (xs ++ o ∷ []) l next ≡ operandsFrom xs l i
-    unfolding operandsFrom
-    carried xs = ap atMostThree (go (operandsOf (piecesFrom next (drop next l))) ∙ ap (ahead xs) (sym (more o next f)))
+    carried : (xs : List OlaAsmOperand) → lineAfter p (xs ++ o ∷ []) l next ≡ lineAfter p xs l i
+    unfolding lineAfter
+    carried xs = ap (λ (os : Option (List OlaAsmOperand)). ofRow (arrangedIf (IsOpcode p) os)) (go (operandsOf (piecesFrom next (drop next l))) ∙ ap (ahead xs) (sym (more o next f)))
       where
         go : (os : Option (List OlaAsmOperand)) → ahead (xs ++ o ∷ []) os ≡ ahead xs (oneMore (IsOperand o) os)
         go none = refl
         go (some os) = ap some (append-assoc xs (o ∷ []) os)
 
-    module _ (x : RowOperands) where
-      pub after-none : x ≡ operandsFrom (o ∷ []) l next → x ≡ operandsFrom [] l i
-      after-none g = g ∙ carried []
+    module _ (x : LineRead) (a : OlaAsmOperand) where
+      pub after-first : x ≡ lineAfter p (a ∷ o ∷ []) l next → x ≡ lineAfter p (a ∷ []) l i
+      after-first g = g ∙ carried (a ∷ [])
 
-      pub after-first : (a : OlaAsmOperand) → x ≡ operandsFrom (a ∷ o ∷ []) l next → x ≡ operandsFrom (a ∷ []) l i
-      after-first a g = g ∙ carried (a ∷ [])
+      pub after-second : (b : OlaAsmOperand) → x ≡ lineAfter p (a ∷ b ∷ o ∷ []) l next → x ≡ lineAfter p (a ∷ b ∷ []) l i
+      after-second b g = g ∙ carried (a ∷ b ∷ [])
 
-      pub after-second : (a b : OlaAsmOperand) → x ≡ operandsFrom (a ∷ b ∷ o ∷ []) l next → x ≡ operandsFrom (a ∷ b ∷ []) l i
-      after-second a b g = g ∙ carried (a ∷ b ∷ [])
+  -- the row of a first piece and of those from place i on
+  module _ (o : OlaOpcode) (q : Part) where
+    pub line-alone : (x : LineRead) → r ≡ End → x ≡ ofRow (rowGiven (IsOpcode o) q []) → x ≡ ofRow (rowGiven (IsOpcode o) q (piecesFrom i (drop i l)))
+    line-alone x f g = rw (ended f) g
 
-    -- no row has a fourth
-    pub fourth : (a b c : OlaAsmOperand) → Other ≡ operandsFrom (a ∷ b ∷ c ∷ []) l i
-    unfolding operandsFrom
-    fourth a b c = go (operandsOf (piecesFrom next (drop next l))) ∙ sym (ap (λ (os : Option (List OlaAsmOperand)). atMostThree (ahead (a ∷ b ∷ c ∷ []) os)) (more o next f))
+    some-row : (r ≡ End → Bad ≡ End) → lineAfter o [] l i ≡ ofRow (rowGiven (IsOpcode o) q (piecesFrom i (drop i l)))
+    unfolding lineAfter
+    some-row h = go (piecesFrom i (drop i l)) (λ z. h (e ∙ ap nextOperand z))
       where
-        go : (os : Option (List OlaAsmOperand)) → Other ≡ atMostThree (ahead (a ∷ b ∷ c ∷ []) (oneMore (IsOperand o) os))
-        go none = refl
-        go (some os) = refl
+        go : (ps : List Part) → (ps ≡ [] → Bad ≡ End) → ofRow (arrangedIf (IsOpcode o) (ahead [] (operandsOf ps))) ≡ ofRow (rowGiven (IsOpcode o) q ps)
+        go [] k = let z : Bad ≡ End = k refl in cc
+        go (p ∷ ps) k = ap (λ (os : Option (List OlaAsmOperand)). ofRow (arrangedIf (IsOpcode o) os)) (same (operandsOf (p ∷ ps)))
+          where
+            same : (os : Option (List OlaAsmOperand)) → ahead [] os ≡ os
+            same none = refl
+            same (some os) = refl
 
-pub ruleset operand-laws = (zero-end, one-end, two-end, three-end, any-bad, after-none, after-first, after-second, fourth, needs)
+    pub line-bad : r ≡ Bad → NoRow ≡ ofRow (rowGiven (IsOpcode o) q (piecesFrom i (drop i l)))
+    line-bad f = any-bad o [] f ∙ some-row (λ z. cc)
+
+    pub line-more : (a : OlaAsmOperand) (next : ℕ) (x : LineRead) → r ≡ Is a next → x ≡ lineAfter o (a ∷ []) l next → x ≡ ofRow (rowGiven (IsOpcode o) q (piecesFrom i (drop i l)))
+    line-more a next x f g = g ∙ carried a next f o [] ∙ some-row (λ z. cc)
+
+pub ruleset operand-laws = (one-end, two-end, any-bad, after-first, after-second, line-alone, line-bad, line-more, needs)
+
+-- no row has a fourth operand
+four : (o : OlaOpcode) (p : RowPlaces) (a b c d : OlaAsmOperand) (os : List OlaAsmOperand) → NoRow ≡ ofRow (arranged o p (a ∷ b ∷ c ∷ d ∷ os))
+unfolding arranged
+four o DstOp0Op1 a b c d os = refl
+four o DstOp1 a b c d os = refl
+four o DstMemory a b c d os = refl
+four o MemoryDst a b c d os = refl
+four o Op0Op1 a b c d os = refl
+four o Op1 a b c d os = refl
+four o Bare a b c d os = refl
+
+module _ (l : List ℕ) (i : ℕ) (p : Piece) (e : p ≡ pieceAt l i) (o : OlaOpcode) (a b c : OlaAsmOperand) where
+  pub three-end : (x : LineRead) → p .length ≡ 0 → x ≡ ofRow (arrangedIf (IsOpcode o) (some (a ∷ b ∷ c ∷ []))) → x ≡ lineAfter o (a ∷ b ∷ c ∷ []) l i
+  unfolding lineAfter operandsOf
+  three-end x h g = rw (no-piece l i p e h) g
+
+  pub fourth : (p .length ≡ 0 → ⊥) → NoRow ≡ lineAfter o (a ∷ b ∷ c ∷ []) l i
+  unfolding lineAfter operandsOf arrangedIf
+  fourth h = rw (first-piece l i p e h) (go (operandOf (cut l (p .start) (p .start + p .length))) (operandsOf (piecesFrom (p .start + p .length) (drop (p .start + p .length) l))))
+    where
+      go : (x : OperandRead) (os : Option (List OlaAsmOperand)) → NoRow ≡ ofRow (arrangedIf (IsOpcode o) (ahead (a ∷ b ∷ c ∷ []) (oneMore x os)))
+      go NoOperand os = refl
+      go (IsOperand d) none = refl
+      go (IsOperand d) (some os) = four o (rowPlaces o) a b c d os
+
+pub ruleset fourth-laws = (three-end, fourth, needs)

@@ -17,134 +17,82 @@ use Rattle.text.specs.declared.Piece.{Piece}
 use Rattle.text.specs.declared.ByteClass.the-variants.{IsNot}
 use Rattle.text.proofs.Laws.{scan-le, part-from}
 use Rattle.text.proofs.PartLaws.{line-ended, line-last}
-use Rattle.vm_opcodes.specs.Operations.{rowPlaces}
 use Rattle.vm_opcodes.specs.declared.OlaOpcode.{OlaOpcode}
 use Rattle.vm_opcodes.specs.declared.OpcodeFound.{OpcodeFound}
 use Rattle.vm_opcodes.specs.declared.OpcodeFound.the-variants.{Is as IsOpcode, Nothing as NoOpcode}
-use Rattle.vm_opcodes.specs.declared.RowPlaces.{RowPlaces}
-use Rattle.vm_opcodes.specs.declared.RowPlaces.the-variants.{DstOp0Op1, DstOp1, DstMemory, MemoryDst, Op0Op1, Op1, Bare}
 use Rattle.vm_mnemonics.specs.Mnemonics.{operationOf}
 use Rattle.asm.specs.Parts.{Part, placed, filledParts, withoutComment, piecesFrom, linePieces, lineAt, nextLine}
-use Rattle.asm.specs.Operands.{operandOf}
-use Rattle.asm.specs.Rows.{arranged, arrangedIf, oneMore, operandsOf, labelRow, orElseRow, rowOf, ofRow, lineOf, rowAt}
-use Rattle.asm.specs.declared.OlaAsmOperand.{OlaAsmOperand}
-use Rattle.asm.specs.declared.OperandRead.{OperandRead}
-use Rattle.asm.specs.declared.OperandRead.the-variants.{Is as IsOperand, Unreadable as NoOperand}
+use Rattle.asm.specs.Rows.{arrangedIf, labelRow, orElseRow, rowOf, ofRow, lineOf, rowAt}
 use Rattle.asm.specs.declared.AsmRow.{AsmRow}
 use Rattle.asm.specs.declared.RowRead.{RowRead}
 use Rattle.asm.specs.declared.RowRead.the-variants.{Is as IsRow, Unreadable}
 use Rattle.asm.specs.declared.LineRead.{LineRead}
 use Rattle.asm.specs.declared.LineRead.the-variants.{Blank, Row, Unreadable as NoRow}
-use Rattle.asm_instructions.specs.Listed.{listed, atMostThree}
-use Rattle.asm_instructions.specs.declared.RowOperands.{RowOperands}
-use Rattle.asm_instructions.specs.declared.RowOperands.the-variants.{Zero, One, Two, Three, Other}
-use Rattle.asm_instructions.proofs.RowOperands.{the-type as operandsType}
-use types.Run.{OneOf, miss}
-use denote.Enum.Declared.{tagOf}
-use Rattle.asm_rows.specs.Found.{pieceAt, ahead, operandsFrom, rowWith}
+use Rattle.asm_rows.specs.Found.{pieceAt, rowGiven}
 use Rattle.asm_laws.proofs.PieceLaws.{part-taken}
 use Rattle.asm_rows.proofs.OperandLaws.{cut, piece-ends, end-fits, no-piece, first-piece}
 
 -- ---- rows
 
--- a first piece that is a label, or a mnemonic alone
+-- a first piece that is a label, or an operation's word alone
 module _ (q : Part) (r : RowRead) (e : r ≡ orElseRow (labelRow q) Unreadable) where
-  pub single-label : (row : AsmRow) → r ≡ IsRow row → IsRow row ≡ rowOf (q ∷ [])
-  unfolding rowOf
-  single-label row f = go (labelRow q) (sym e ∙ f)
+  told-label : (row : AsmRow) (x : RowRead) → r ≡ IsRow row → Row row ≡ ofRow (orElseRow (labelRow q) x)
+  told-label row x f = go (labelRow q) (sym e ∙ f)
     where
-      go : (x : Option AsmRow) → orElseRow x Unreadable ≡ IsRow row → IsRow row ≡ orElseRow x (arrangedIf (operationOf (q .text)) (some []))
-      go (some y) h = sym h
+      go : (y : Option AsmRow) → orElseRow y Unreadable ≡ IsRow row → Row row ≡ ofRow (orElseRow y x)
+      go (some y) h = ap ofRow (sym h)
       go none h = cc
 
-  pub single-bare : (x : RowRead) → r ≡ Unreadable → x ≡ arrangedIf (operationOf (q .text)) (some []) → x ≡ rowOf (q ∷ [])
-  unfolding rowOf
-  single-bare x f g = go (labelRow q) (sym e ∙ f)
+  told-none : (x : RowRead) → r ≡ Unreadable → orElseRow (labelRow q) x ≡ x
+  told-none x f = go (labelRow q) (sym e ∙ f)
     where
-      go : (y : Option AsmRow) → orElseRow y Unreadable ≡ Unreadable → x ≡ orElseRow y (arrangedIf (operationOf (q .text)) (some []))
+      go : (y : Option AsmRow) → orElseRow y Unreadable ≡ Unreadable → orElseRow y x ≡ x
       go (some y) h = cc
-      go none h = g
+      go none h = refl
+
+  module _ (o : OlaOpcode) where
+    pub single-label : (row : AsmRow) → r ≡ IsRow row → Row row ≡ ofRow (rowGiven (IsOpcode o) q [])
+    single-label row f = told-label row _ f
+
+    pub single-bare : (x : LineRead) → r ≡ Unreadable → x ≡ ofRow (arrangedIf (IsOpcode o) (some [])) → x ≡ ofRow (rowGiven (IsOpcode o) q [])
+    single-bare x f g = g ∙ ap ofRow (sym (told-none _ f))
+
+  -- a word that is no operation's, with no piece behind it
+  module _ (l : List ℕ) (i : ℕ) (p : Piece) (d : p ≡ pieceAt l i) (h : p .length ≡ 0) where
+    pub label-is : (row : AsmRow) → r ≡ IsRow row → Row row ≡ ofRow (rowGiven NoOpcode q (piecesFrom i (drop i l)))
+    label-is row f = rw (no-piece l i p d h) (told-label row _ f)
+
+    pub label-none : r ≡ Unreadable → NoRow ≡ ofRow (rowGiven NoOpcode q (piecesFrom i (drop i l)))
+    unfolding arrangedIf
+    label-none f = rw (no-piece l i p d h) (ap ofRow (sym (told-none Unreadable f)))
 
 pub ruleset single-laws = (single-label, single-bare, needs)
 
-pub instruction-none : (w : List ℕ) (os : RowOperands) (f : OpcodeFound) → f ≡ operationOf w → f ≡ NoOpcode → Unreadable ≡ arrangedIf (operationOf w) (listed os)
+-- and with one
+pub label-more : (q : Part) (l : List ℕ) (i : ℕ) (p : Piece) → p ≡ pieceAt l i → (p .length ≡ 0 → ⊥) → NoRow ≡ ofRow (rowGiven NoOpcode q (piecesFrom i (drop i l)))
 unfolding arrangedIf
-instruction-none w os f e g = sym (ap (λ (x : OpcodeFound). arrangedIf x (listed os)) (sym e ∙ g))
+label-more q l i p e h = rw (first-piece l i p e h)
 
-pub instruction-is : (w : List ℕ) (os : RowOperands) (f : OpcodeFound) (o : OlaOpcode) (r : RowRead) → f ≡ operationOf w → f ≡ IsOpcode o → r ≡ arrangedIf (IsOpcode o) (listed os) → r ≡ arrangedIf (operationOf w) (listed os)
-instruction-is w os f o r e g h = h ∙ sym (ap (λ (x : OpcodeFound). arrangedIf x (listed os)) (sym e ∙ g))
+pub ruleset label-laws = (label-is, label-none, label-more, needs)
 
-pub ruleset instruction-laws = (instruction-none, instruction-is, needs)
-
--- a row by how many operands it has
-module _ (start : ℕ) (w : List ℕ) (os : RowOperands) (r : RowRead) where
-  pub with-zero : os ≡ Zero → r ≡ rowOf (record { start = start; text = w } ∷ []) → r ≡ rowWith (record { start = start; text = w }) os
-  with-zero e h = rw e h
-
-  pub with-some : OneOf (1 ∷ 2 ∷ 3 ∷ 4 ∷ []) (tagOf operandsType os) → r ≡ arrangedIf (operationOf w) (listed os) → r ≡ rowWith (record { start = start; text = w }) os
-  with-some k h = go os k h
-    where
-      go : (x : RowOperands) → OneOf (1 ∷ 2 ∷ 3 ∷ 4 ∷ []) (tagOf operandsType x) → r ≡ arrangedIf (operationOf w) (listed x) → r ≡ rowWith (record { start = start; text = w }) x
-      go Zero j g = absurd (miss (1 ∷ 2 ∷ 3 ∷ 4 ∷ []) 0 tt j)
-      go (One a) j g = g
-      go (Two a b) j g = g
-      go (Three a b c) j g = g
-      go Other j g = g
-
-pub ruleset with-laws = (with-zero, with-some, needs)
-
--- a row has at most three operands
-four : (o : OlaOpcode) (p : RowPlaces) (a b c d : OlaAsmOperand) (os : List OlaAsmOperand) → arranged o p (a ∷ b ∷ c ∷ d ∷ os) ≡ Unreadable
-unfolding arranged
-four o DstOp0Op1 a b c d os = refl
-four o DstOp1 a b c d os = refl
-four o DstMemory a b c d os = refl
-four o MemoryDst a b c d os = refl
-four o Op0Op1 a b c d os = refl
-four o Op1 a b c d os = refl
-four o Bare a b c d os = refl
-
-no-four : (f : OpcodeFound) (a b c d : OlaAsmOperand) (os : List OlaAsmOperand) → arrangedIf f none ≡ arrangedIf f (some (a ∷ b ∷ c ∷ d ∷ os))
-unfolding arrangedIf
-no-four NoOpcode a b c d os = refl
-no-four (IsOpcode o) a b c d os = sym (four o (rowPlaces o) a b c d os)
-
--- the first piece and its operands make the row of all pieces
-row-made : (q : Part) (ps : List Part) → rowWith q (atMostThree (ahead [] (operandsOf ps))) ≡ rowOf (q ∷ ps)
-unfolding operandsOf rowOf
+-- the first piece and its operation make the row of all pieces
+row-made : (q : Part) (ps : List Part) → rowGiven (operationOf (q .text)) q ps ≡ rowOf (q ∷ ps)
+unfolding rowOf
 row-made q [] = refl
-row-made q (r ∷ rs) = many (operandOf r) (operandsOf rs) ∙ row-many
-  where
-    many : (x : OperandRead) (os : Option (List OlaAsmOperand)) → rowWith q (atMostThree (ahead [] (oneMore x os))) ≡ arrangedIf (operationOf (q .text)) (oneMore x os)
-    many NoOperand os = refl
-    many (IsOperand a) none = refl
-    many (IsOperand a) (some []) = refl
-    many (IsOperand a) (some (b ∷ [])) = refl
-    many (IsOperand a) (some (b ∷ c ∷ [])) = refl
-    many (IsOperand a) (some (b ∷ c ∷ d ∷ os)) = no-four (operationOf (q .text)) a b c d os
-
-    row-many : arrangedIf (operationOf (q .text)) (oneMore (operandOf r) (operandsOf rs)) ≡ rowOf (q ∷ r ∷ rs)
-    row-many = refl
+row-made q (p ∷ ps) = refl
 
 module _ (l : List ℕ) (i : ℕ) (p : Piece) (e : p ≡ pieceAt l i) where
   pub line-blank : p .length ≡ 0 → Blank ≡ lineOf (piecesFrom i (drop i l))
   line-blank h = rw (no-piece l i p e h)
 
-  module _ (os : RowOperands) (r : RowRead) (h : p .length ≡ 0 → ⊥) (f : os ≡ operandsFrom [] l (p .start + p .length)) (g : r ≡ rowWith (cut l (p .start) (p .start + p .length)) os) where
-    line-told : lineOf (piecesFrom i (drop i l)) ≡ ofRow r
-    unfolding operandsFrom
-    line-told =
-        let q : Part = cut l (p .start) (p .start + p .length) in
-        let k : r ≡ rowOf (q ∷ piecesFrom (p .start + p .length) (drop (p .start + p .length) l)) = g ∙ ap (rowWith q) f ∙ row-made q _ in
-        ap lineOf (first-piece l i p e h) ∙ ap ofRow (sym k)
+  -- as the operation of the first piece was told
+  pub line-told : (f g : OpcodeFound) (x : LineRead) → (p .length ≡ 0 → ⊥) → f ≡ operationOf (cut l (p .start) (p .start + p .length) .text) → f ≡ g → x ≡ ofRow (rowGiven g (cut l (p .start) (p .start + p .length)) (piecesFrom (p .start + p .length) (drop (p .start + p .length) l))) → x ≡ lineOf (piecesFrom i (drop i l))
+  line-told f g x h k m n =
+      let q : Part = cut l (p .start) (p .start + p .length) in
+      let ps : List Part = piecesFrom (p .start + p .length) (drop (p .start + p .length) l) in
+      n ∙ ap (λ (y : OpcodeFound). ofRow (rowGiven y q ps)) (sym m ∙ k) ∙ ap ofRow (row-made q ps) ∙ sym (ap lineOf (first-piece l i p e h))
 
-    pub line-row : (row : AsmRow) → r ≡ IsRow row → Row row ≡ lineOf (piecesFrom i (drop i l))
-    line-row row k = sym (line-told ∙ rw k)
-
-    pub line-unreadable : r ≡ Unreadable → NoRow ≡ lineOf (piecesFrom i (drop i l))
-    line-unreadable k = sym (line-told ∙ rw k)
-
-pub ruleset line-laws = (piece-ends, end-fits, line-blank, line-row, line-unreadable, needs)
+pub ruleset line-laws = (piece-ends, end-fits, line-blank, line-told, needs)
 
 -- ---- the line of a source that starts at a place
 

@@ -4,18 +4,17 @@ use asm::OlaAsmOperand;
 use asm::OperandRead;
 use asm::RowAt;
 use asm::RowRead;
-use asm_instructions::RowOperands;
 use text::ByteClass;
 use text::Piece;
+use vm_opcodes::OlaOpcode;
 use vm_opcodes::OpcodeFound;
 ghost use mathlib.Core.Path.{_≡_};
 ghost use mathlib.Core.List.{[], _∷_};
 ghost use lib.ListN.{drop};
-ghost use Rattle.vm_mnemonics.specs.Mnemonics.{operationOf};
+ghost use Rattle.vm_opcodes.specs.declared.OpcodeFound.the-variants.{Is, Nothing};
 ghost use Rattle.asm.specs.Parts.{piecesFrom};
-ghost use Rattle.asm.specs.Rows.{arrangedIf, rowOf, lineOf, rowAt};
-ghost use Rattle.asm_instructions.specs.Listed.{listed};
-ghost use Rattle.asm_rows.specs.Found.{pieceAt, nextOperand, operandsFrom, rowWith};
+ghost use Rattle.asm.specs.Rows.{ofRow, lineOf, rowAt};
+ghost use Rattle.asm_rows.specs.Found.{pieceAt, nextOperand, lineAfter, rowGiven};
 
 // The next operand of a row and where what follows it starts, a piece that is no operand, or that the row has ended.
 pub enum NextOperand {
@@ -57,83 +56,84 @@ fn next_operand(line: &[u8], at: usize) -> NextOperand
     }
 }
 
-// The operands from a place on, where three were read.
+// The line of an operation from a place on, where three operands were read.
 fn after_three(
     line: &[u8],
     at: usize,
+    opcode: OlaOpcode,
     a: OlaAsmOperand,
     b: OlaAsmOperand,
     c: OlaAsmOperand,
-) -> RowOperands
-    ensures { λ r. ⌜ r ≡ operandsFrom (a ∷ b ∷ c ∷ []) (now (line .entry)) at ⌝ }
+) -> LineRead
+    ensures { λ r. ⌜ r ≡ lineAfter opcode (a ∷ b ∷ c ∷ []) (now (line .entry)) at ⌝ }
 {
-    match next_operand(line, at) {
-        NextOperand::Is(o, next) => RowOperands::Other,
-        NextOperand::Bad => RowOperands::Other,
-        NextOperand::End => RowOperands::Three(a, b, c),
+    let piece = piece_at(line, at);
+    if piece.length == 0 {
+        return asm_instructions::of_three(opcode, a, b, c);
     }
+    LineRead::Unreadable
 }
 
 // Where two were read.
-fn after_two(line: &[u8], at: usize, a: OlaAsmOperand, b: OlaAsmOperand) -> RowOperands
-    ensures { λ r. ⌜ r ≡ operandsFrom (a ∷ b ∷ []) (now (line .entry)) at ⌝ }
+fn after_two(
+    line: &[u8],
+    at: usize,
+    opcode: OlaOpcode,
+    a: OlaAsmOperand,
+    b: OlaAsmOperand,
+) -> LineRead
+    ensures { λ r. ⌜ r ≡ lineAfter opcode (a ∷ b ∷ []) (now (line .entry)) at ⌝ }
 {
     match next_operand(line, at) {
-        NextOperand::Is(c, next) => after_three(line, next, a, b, c),
-        NextOperand::Bad => RowOperands::Other,
-        NextOperand::End => RowOperands::Two(a, b),
+        NextOperand::Is(c, next) => after_three(line, next, opcode, a, b, c),
+        NextOperand::Bad => LineRead::Unreadable,
+        NextOperand::End => asm_instructions::of_two(opcode, a, b),
     }
 }
 
 // Where one was read.
-fn after_one(line: &[u8], at: usize, a: OlaAsmOperand) -> RowOperands
-    ensures { λ r. ⌜ r ≡ operandsFrom (a ∷ []) (now (line .entry)) at ⌝ }
+fn after_one(line: &[u8], at: usize, opcode: OlaOpcode, a: OlaAsmOperand) -> LineRead
+    ensures { λ r. ⌜ r ≡ lineAfter opcode (a ∷ []) (now (line .entry)) at ⌝ }
 {
     match next_operand(line, at) {
-        NextOperand::Is(b, next) => after_two(line, next, a, b),
-        NextOperand::Bad => RowOperands::Other,
-        NextOperand::End => RowOperands::One(a),
+        NextOperand::Is(b, next) => after_two(line, next, opcode, a, b),
+        NextOperand::Bad => LineRead::Unreadable,
+        NextOperand::End => asm_instructions::of_one(opcode, a),
     }
 }
 
-// The operands of a row from a place on.
-fn operands_at(line: &[u8], at: usize) -> RowOperands
-    ensures { λ r. ⌜ r ≡ operandsFrom [] (now (line .entry)) at ⌝ }
-{
-    match next_operand(line, at) {
-        NextOperand::Is(a, next) => after_one(line, next, a),
-        NextOperand::Bad => RowOperands::Other,
-        NextOperand::End => RowOperands::Zero,
-    }
-}
-
-// An instruction row from its first piece and its operands.
-fn instruction_row(word: &[u8], operands: RowOperands) -> RowRead
-    ensures { λ r. ⌜ r ≡ arrangedIf (operationOf (now (word .entry))) (listed operands) ⌝ }
-{
-    match vm_mnemonics::from_str(word) {
-        OpcodeFound::Is(opcode) => asm_instructions::arrange(opcode, operands),
-        OpcodeFound::Nothing => RowRead::Unreadable,
-    }
-}
-
-// The row of a piece that stands alone, a label or an operation without operands.
-fn single_row(word: &[u8], start: usize) -> RowRead
-    ensures { λ r. ⌜ r ≡ rowOf (record { start = start; text = now (word .entry) } ∷ []) ⌝ }
+// The line of an operation's word that stands alone.
+fn single_row(word: &[u8], start: usize, opcode: OlaOpcode) -> LineRead
+    ensures { λ r. ⌜ r ≡ ofRow (rowGiven (Is opcode) (record { start = start; text = now (word .entry) }) []) ⌝ }
 {
     match asm_labels::label_row(word, start) {
-        RowRead::Is(row) => RowRead::Is(row),
-        RowRead::Unreadable => instruction_row(word, RowOperands::Zero),
+        RowRead::Is(row) => LineRead::Row(row),
+        RowRead::Unreadable => asm_instructions::of_none(opcode),
     }
 }
 
-// A row from its first piece, which starts at a place of the source, and its operands.
-fn row_with(word: &[u8], start: usize, operands: RowOperands) -> RowRead
-    ensures { λ r. ⌜ r ≡ rowWith (record { start = start; text = now (word .entry) }) operands ⌝ }
+// The line of an operation's word, which starts at a place of the source, and of the pieces from another on.
+fn operation_line(line: &[u8], word: &[u8], start: usize, at: usize, opcode: OlaOpcode) -> LineRead
+    ensures { λ r. ⌜ r ≡ ofRow (rowGiven (Is opcode) (record { start = start; text = now (word .entry) }) (piecesFrom at (drop at (now (line .entry))))) ⌝ }
 {
-    match operands {
-        RowOperands::Zero => single_row(word, start),
-        _ => instruction_row(word, operands),
+    match next_operand(line, at) {
+        NextOperand::Is(a, next) => after_one(line, next, opcode, a),
+        NextOperand::Bad => LineRead::Unreadable,
+        NextOperand::End => single_row(word, start, opcode),
+    }
+}
+
+// The line of a word that is no operation's: a label that stands alone.
+fn label_line(line: &[u8], word: &[u8], start: usize, at: usize) -> LineRead
+    ensures { λ r. ⌜ r ≡ ofRow (rowGiven Nothing (record { start = start; text = now (word .entry) }) (piecesFrom at (drop at (now (line .entry))))) ⌝ }
+{
+    let piece = piece_at(line, at);
+    if piece.length != 0 {
+        return LineRead::Unreadable;
+    }
+    match asm_labels::label_row(word, start) {
+        RowRead::Is(row) => LineRead::Row(row),
+        RowRead::Unreadable => LineRead::Unreadable,
     }
 }
 
@@ -147,10 +147,10 @@ fn line_read(line: &[u8], at: usize) -> LineRead
     }
     let start = piece.start;
     let end = start + piece.length;
-    let operands = operands_at(line, end);
-    match row_with(&line[start..end], start, operands) {
-        RowRead::Is(row) => LineRead::Row(row),
-        RowRead::Unreadable => LineRead::Unreadable,
+    let word = &line[start..end];
+    match vm_mnemonics::from_str(word) {
+        OpcodeFound::Is(opcode) => operation_line(line, word, start, end, opcode),
+        OpcodeFound::Nothing => label_line(line, word, start, end),
     }
 }
 

@@ -107,7 +107,8 @@ pub fn source_number(text: &[u8]) -> SourceNumber
     if !is_source_number(text) {
         return SourceNumber::Other;
     }
-    match ImmediateValue::from_str(text) {
+    // Lent anew: a slice that is only passed on is copied through memory.
+    match ImmediateValue::from_str(&text[..]) {
         ImmediateFound::Is(value) => SourceNumber::Is(value),
         ImmediateFound::Nothing => SourceNumber::OutOfRange,
     }

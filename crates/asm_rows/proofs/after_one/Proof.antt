@@ -2,10 +2,6 @@ use Rattle.asm_rows.proofs.OperandLaws.{operand-laws}
 use borrow.Author.Needs.{needs}
 use Rattle.asm_rows.proofs.after_one.Statement.{statement}
 use Rattle.asm_rows.proofs.after_one.Tie as tie
-use Rattle.asm_rows.proofs.after_one.Reads as reads
-use Rattle.asm_rows.proofs.after_one.Lts as lts
-use Rattle.asm_rows.proofs.after_two.Reads as after-two-reads
-use Rattle.asm_rows.proofs.next_operand.Reads as next-operand-reads
 
 next-operand-requires : tie.Need-next-operand-requires
 next-operand-requires c κs = search needs
@@ -21,6 +17,9 @@ enum-told c = search needs
 
 enum-told-2 : tie.Need-enum-told-2
 enum-told-2 c = search needs
+
+of-one-requires : tie.Need-of-one-requires
+of-one-requires c κs = search needs
 
 returns : tie.Need-returns
 returns c = search operand-laws
@@ -40,6 +39,7 @@ after-one-spec =
     after-two-requires
     enum-told
     enum-told-2
+    of-one-requires
     returns
     returns-2
     returns-3)

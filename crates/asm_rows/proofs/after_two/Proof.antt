@@ -2,10 +2,6 @@ use Rattle.asm_rows.proofs.OperandLaws.{operand-laws}
 use borrow.Author.Needs.{needs}
 use Rattle.asm_rows.proofs.after_two.Statement.{statement}
 use Rattle.asm_rows.proofs.after_two.Tie as tie
-use Rattle.asm_rows.proofs.after_two.Reads as reads
-use Rattle.asm_rows.proofs.after_two.Lts as lts
-use Rattle.asm_rows.proofs.after_three.Reads as after-three-reads
-use Rattle.asm_rows.proofs.next_operand.Reads as next-operand-reads
 
 next-operand-requires : tie.Need-next-operand-requires
 next-operand-requires c κs = search needs
@@ -21,6 +17,9 @@ enum-told c = search needs
 
 enum-told-2 : tie.Need-enum-told-2
 enum-told-2 c = search needs
+
+of-two-requires : tie.Need-of-two-requires
+of-two-requires c κs = search needs
 
 returns : tie.Need-returns
 returns c = search operand-laws
@@ -40,6 +39,7 @@ after-two-spec =
     after-three-requires
     enum-told
     enum-told-2
+    of-two-requires
     returns
     returns-2
     returns-3)

@@ -1,11 +1,7 @@
 use Rattle.asm_rows.proofs.OperandLaws.{operand-laws}
 use borrow.Author.Needs.{needs}
-use Rattle.asm_rows.proofs.operands_at.Statement.{statement}
-use Rattle.asm_rows.proofs.operands_at.Tie as tie
-use Rattle.asm_rows.proofs.operands_at.Reads as reads
-use Rattle.asm_rows.proofs.operands_at.Lts as lts
-use Rattle.asm_rows.proofs.after_one.Reads as after-one-reads
-use Rattle.asm_rows.proofs.next_operand.Reads as next-operand-reads
+use Rattle.asm_rows.proofs.operation_line.Statement.{statement}
+use Rattle.asm_rows.proofs.operation_line.Tie as tie
 
 next-operand-requires : tie.Need-next-operand-requires
 next-operand-requires c κs = search needs
@@ -22,6 +18,9 @@ enum-told c = search needs
 enum-told-2 : tie.Need-enum-told-2
 enum-told-2 c = search needs
 
+single-row-requires : tie.Need-single-row-requires
+single-row-requires c κs = search needs
+
 returns : tie.Need-returns
 returns c = search operand-laws
 
@@ -31,8 +30,8 @@ returns-2 c = search operand-laws
 returns-3 : tie.Need-returns-3
 returns-3 c = search operand-laws
 
-pub operands-at-spec : {M : Type 1} → statement M
-operands-at-spec =
+pub operation-line-spec : {M : Type 1} → statement M
+operation-line-spec =
     tie.close
     (tie.spec
     next-operand-requires
@@ -40,6 +39,7 @@ operands-at-spec =
     after-one-requires
     enum-told
     enum-told-2
+    single-row-requires
     returns
     returns-2
     returns-3)
