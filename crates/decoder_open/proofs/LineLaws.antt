@@ -1,4 +1,4 @@
--- The first line that is no first word, by what stands from an offset on.
+-- The first line that is no first word, from an offset on, by what stands from a later one on.
 use Prim.Native.Nat.{ℕ, _+_, _-_, _<_, _≤_}
 use mathlib.Core.Path.{_≡_, refl, sym, ap, _∙_}
 use mathlib.Core.List.{List, [], _∷_}
@@ -26,25 +26,25 @@ module _ (line : ℕ) (g : Group (List ℕ)) (gs : List (Group (List ℕ))) wher
   unfolding firstUnreadable
   none-first f = rw f
 
-module _ (text : List ℕ) (line at : ℕ) (left : firstUnreadable 0 (lineGroups (lines text)) ≡ firstUnreadable line (lineGroups (lines (drop at text)))) where
+module _ (text : List ℕ) (offset first line at : ℕ) (left : firstUnreadable first (lineGroups (lines (drop offset text))) ≡ firstUnreadable line (lineGroups (lines (drop at text)))) where
   -- what is left, where the groups are known
-  left-as : (gs : List (Group (List ℕ))) → groupsFrom text at ≡ gs → firstUnreadable 0 (lineGroups (lines text)) ≡ firstUnreadable line gs
+  left-as : (gs : List (Group (List ℕ))) → groupsFrom text at ≡ gs → firstUnreadable first (lineGroups (lines (drop offset text))) ≡ firstUnreadable line gs
   left-as gs e = left ∙ ap (firstUnreadable line) e
 
   module _ (g : GroupAt) (e : g ≡ groupAt text at) where
     -- no line is left
-    pub line-nothing : g ≡ Nothing → none ≡ firstUnreadable 0 (lineGroups (lines text))
+    pub line-nothing : g ≡ Nothing → none ≡ firstUnreadable first (lineGroups (lines (drop offset text)))
     unfolding firstUnreadable
     line-nothing h = sym (left-as [] (nothing-groups text at (sym e ∙ h)))
 
     -- a line that is no number
-    pub line-unreadable : g ≡ Unreadable → some line ≡ firstUnreadable 0 (lineGroups (lines text))
+    pub line-unreadable : g ≡ Unreadable → some line ≡ firstUnreadable first (lineGroups (lines (drop offset text)))
     line-unreadable h =
         let q = sym e ∙ h in
         sym (left-as _ (unreadable-groups text at q) ∙ none-first line _ _ (unreadable-first text at q))
 
     -- a last word that lacks its second line
-    pub line-incomplete : g ≡ Incomplete → none ≡ firstUnreadable 0 (lineGroups (lines text))
+    pub line-incomplete : g ≡ Incomplete → none ≡ firstUnreadable first (lineGroups (lines (drop offset text)))
     unfolding firstUnreadable
     line-incomplete h =
         let q = sym e ∙ h in
@@ -53,7 +53,7 @@ module _ (text : List ℕ) (line at : ℕ) (left : firstUnreadable 0 (lineGroups
 
     -- one line
     module _ (w next : ℕ) (h : g ≡ Single w next) where
-      pub line-single : firstUnreadable 0 (lineGroups (lines text)) ≡ firstUnreadable (line + 1) (lineGroups (lines (drop next text)))
+      pub line-single : firstUnreadable first (lineGroups (lines (drop offset text))) ≡ firstUnreadable (line + 1) (lineGroups (lines (drop next text)))
       line-single =
           let q = sym e ∙ h in
           left-as _ (single-groups text at w next q) ∙ word-first line _ _ w (single-first text at w next q)
@@ -66,7 +66,7 @@ module _ (text : List ℕ) (line at : ℕ) (left : firstUnreadable 0 (lineGroups
 
     -- two lines
     module _ (w start n next : ℕ) (h : g ≡ Pair w start n next) where
-      pub line-pair : firstUnreadable 0 (lineGroups (lines text)) ≡ firstUnreadable (line + 2) (lineGroups (lines (drop next text)))
+      pub line-pair : firstUnreadable first (lineGroups (lines (drop offset text))) ≡ firstUnreadable (line + 2) (lineGroups (lines (drop next text)))
       line-pair =
           let q = sym e ∙ h in
           left-as _ (pair-groups text at w start n next q) ∙ word-first line _ _ w (pair-first text at w start n next q)
@@ -78,7 +78,7 @@ module _ (text : List ℕ) (line at : ℕ) (left : firstUnreadable 0 (lineGroups
       less-pair k = let m = pair-more text at w start n next (sym e ∙ h) in omega arith
 
   -- past the end no line is left
-  pub line-end : length text ≤ at → none ≡ firstUnreadable 0 (lineGroups (lines text))
+  pub line-end : length text ≤ at → none ≡ firstUnreadable first (lineGroups (lines (drop offset text)))
   line-end h = line-nothing Nothing (at-past text at h) refl
 
 pub ruleset line-laws = (line-nothing, line-unreadable, line-incomplete, line-single, count-single, less-single, line-pair, count-pair, less-pair, line-end, needs)

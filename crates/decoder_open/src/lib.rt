@@ -4,11 +4,14 @@ use decoder::Opening;
 use decoder_lines::GroupAt;
 use decoder_lines::InstructionAt;
 ghost use mathlib.Core.Path.{_≡_};
+ghost use Prim.Native.Nat.{_≤_};
+ghost use lib.ListN.{drop};
 ghost use Rattle.text.specs.Lines.{lines};
+ghost use Rattle.text.specs.Answer.{refused};
 ghost use Rattle.decoder.specs.Lines.{lineGroups, firstUnreadable, completeOf};
-ghost use Rattle.decoder.specs.Open.{allDecoded, opened};
+ghost use Rattle.decoder.specs.Open.{openNumber, openDetail, allDecoded, opened};
 ghost use Rattle.decoder.specs.Steps.{acceptedOf, openNumbered};
-ghost use Rattle.decoder_open.specs.Unreadable.{lineOption};
+ghost use Rattle.decoder_open.specs.Unreadable.{lineOption, lineFirst};
 
 // The line of a first word that is no number, or none.
 pub enum UnreadableLine {
@@ -16,12 +19,13 @@ pub enum UnreadableLine {
     Nothing,
 }
 
-// The first line that should be a first word and is no 64-bit hexadecimal number.
-fn first_unreadable(text: &[u8]) -> UnreadableLine
-    ensures { λ r. ⌜ lineOption r ≡ firstUnreadable 0 (lineGroups (lines (now (text .entry)))) ⌝ }
+// The first line, from an offset and its line on, that should be a first word and is no 64-bit hexadecimal number.
+fn first_unreadable(text: &[u8], offset: usize, first: usize) -> UnreadableLine
+    requires { ⌜ first ≤ offset ⌝ }
+    ensures { λ r. ⌜ lineOption r ≡ firstUnreadable first (lineGroups (lines (drop offset (now (text .entry))))) ⌝ }
 {
-    let mut at: usize = 0;
-    let mut line: usize = 0;
+    let mut at = offset;
+    let mut line = first;
     while at < text.len() {
         match decoder_lines::group_at(text, at) {
             GroupAt::Nothing => return UnreadableLine::Nothing,
@@ -45,22 +49,35 @@ fn first_unreadable(text: &[u8]) -> UnreadableLine
     UnreadableLine::Nothing
 }
 
-// Whether every complete instruction is read, 16 to 19 by its index.
-fn decode_all(text: &[u8]) -> Opening
-    ensures { λ r. ⌜ openNumbered r ≡ acceptedOf (allDecoded 0 (completeOf (lineGroups (lines (now (text .entry)))))) ⌝ }
+// The refusal of the instruction at an offset and its line, but 15 where a first word from there on is unreadable.
+fn refused_from(text: &[u8], offset: usize, line: usize, refusal: OpenRefusal) -> Opening
+    requires { ⌜ line ≤ offset ⌝ }
+    ensures { λ r. ⌜ openNumbered r ≡ lineFirst (firstUnreadable line (lineGroups (lines (drop offset (now (text .entry)))))) (refused (openNumber refusal) (openDetail refusal)) ⌝ }
+{
+    match first_unreadable(text, offset, line) {
+        UnreadableLine::At(found) => Opening::Refused(OpenRefusal::FirstWordUnreadable(found)),
+        UnreadableLine::Nothing => Opening::Refused(refusal),
+    }
+}
+
+// Whether every complete instruction is read: 15 over all lines, then 16 to 19 by its index.
+fn open_all(text: &[u8]) -> Opening
+    ensures { λ r. ⌜ openNumbered r ≡ lineFirst (firstUnreadable 0 (lineGroups (lines (now (text .entry))))) (acceptedOf (allDecoded 0 (completeOf (lineGroups (lines (now (text .entry))))))) ⌝ }
 {
     let mut at: usize = 0;
+    let mut line: usize = 0;
     let mut index: usize = 0;
     while at < text.len() {
         match decoder_lines::decode_at(text, at, index) {
             InstructionAt::NoneLeft => return Opening::Accepted,
-            InstructionAt::Refused(refusal) => return Opening::Refused(refusal),
+            InstructionAt::Refused(refusal) => return refused_from(text, at, line, refusal),
             InstructionAt::Is {
                 instruction,
                 lines,
                 next,
             } => {
                 at = next;
+                line += lines;
                 index += 1;
             }
         }
@@ -76,8 +93,5 @@ pub fn open_text(text: &[u8]) -> Opening
     if 524288 < text.len() {
         return Opening::Refused(OpenRefusal::TextTooLong);
     }
-    match first_unreadable(text) {
-        UnreadableLine::At(line) => Opening::Refused(OpenRefusal::FirstWordUnreadable(line)),
-        UnreadableLine::Nothing => decode_all(text),
-    }
+    open_all(text)
 }

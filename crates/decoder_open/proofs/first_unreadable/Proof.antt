@@ -9,10 +9,10 @@ use Rattle.decoder_open.proofs.first_unreadable.Statement.{statement}
 use Rattle.decoder_open.proofs.first_unreadable.Tie as tie
 
 abbrev Inv-loop : tie.InvT-loop
-Inv-loop text at₀ line₀ at line = (firstUnreadable 0 (lineGroups (lines text)) ≡ firstUnreadable line (lineGroups (lines (drop at text)))) × (line ≤ at)
+Inv-loop text offset first at₀ line₀ at line = (firstUnreadable first (lineGroups (lines (drop offset text))) ≡ firstUnreadable line (lineGroups (lines (drop at text)))) × (line ≤ at)
 
 abbrev μ-loop : tie.MeasureT-loop
-μ-loop text at₀ line₀ at line = length text - at
+μ-loop text offset first at₀ line₀ at line = length text - at
 
 loop-holds : tie.Need-loop-holds Inv-loop μ-loop
 loop-holds c = (search line-laws, search line-laws)
