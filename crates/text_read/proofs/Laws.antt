@@ -1,12 +1,13 @@
 -- Laws of the numbers read from digits: digits one by one, what the loops ask, and what a caller may take from an answer.
-use Prim.Native.Nat.{ℕ, suc, _+_, _-_, _*_, _/_, _<_, _≤_}
+use Prim.Native.Nat.{ℕ, suc, _+_, _-_, _*_, _/_, _^_, _<_, _≤_}
 use mathlib.Core.Path.{_≡_, refl, sym, ap, _∙_}
 use mathlib.Core.List.{List, [], _∷_, _++_}
 use mathlib.Core.Bool.{Bool, true, false, not, _&&_, and-false, cond}
 use lib.Dec.{eqb, ltb}
 use lib.ListN.{length, getD, take, drop, length-drop, drop-of-length-le}
 use lib.Seq.{drop-cons, take-all}
-use native.Mathlib.Nat.{le-div-iff-mul-le, div-lt-iff-lt-mul, le-mul-of-pos-right}
+use lib.Pow.{pow-add}
+use native.Mathlib.Nat.{pow-le-pow-right, le-div-iff-mul-le, div-lt-iff-lt-mul, le-mul-of-pos-right}
 use native.Mathlib.Numerals.{add-one, add-two}
 use native.Mathlib.Omega.{arith}
 use mir.Syntax.{w64}
@@ -160,6 +161,36 @@ module _ (base most v d : ℕ) where
   sum-fits p k h f = let r = next-within base most v d p k h in omega arith
 
 pub ruleset read-laws = (read-none, read-start, read-other, read-beyond, read-over, read-on, read-end, product-fits, sum-fits, next-within, needs)
+
+-- ---- sixteen digits, whose value is below 2 ^ 64
+sixteen-more : (v d i : ℕ) → v < 16 ^ i → d < 16 → v * 16 + d < 16 ^ (i + 1)
+sixteen-more v d i h k = let e = pow-add 16 i 1 in let f : 16 ^ 1 ≡ 16 = refl in rw (e, f) (omega arith)
+
+sixteen-most : (i : ℕ) → i < 16 → 16 ^ (i + 1) ≤ 2 ^ 64
+sixteen-most i h = let k : i + 1 ≤ 16 = omega arith in let b : 0 < 16 = omega arith in let m : 16 ^ (i + 1) ≤ 16 ^ 16 = pow-le-pow-right b k in omega (arith, m)
+
+module _ (v d i : ℕ) (h : v < 16 ^ i) (l : i < 16) (k : d < 16) where
+  pub sixteen-on : v * 16 + d < 16 ^ (i + 1)
+  sixteen-on = sixteen-more v d i h k
+
+  pub sixteen-fits : Fits w64 (v * 16 + d)
+  sixteen-fits = let a = sixteen-more v d i h k in let b = sixteen-most i l in omega arith
+
+  pub sixteen-product : Fits w64 (v * 16)
+  sixteen-product = let a = sixteen-fits in omega arith
+
+module _ (most : ℕ) (s : List ℕ) (n : length s ≡ 16) where
+  pub sixteen-start : numeral 16 (most + 1) s ≡ numeralFrom 16 (most + 1) 0 (drop 0 s)
+  sixteen-start = whole-from 16 (most + 1) s (λ z. omega arith)
+
+  module _ (i v : ℕ) (e : numeral 16 (most + 1) s ≡ numeralFrom 16 (most + 1) v (drop i s)) where
+    pub sixteen-within : 16 ≤ i → v ≤ most → Value v ≡ numeral 16 (most + 1) s
+    sixteen-within h k = read-end 16 most s i v (omega arith) k e
+
+    pub sixteen-over : 16 ≤ i → most < v → Nothing ≡ numeral 16 (most + 1) s
+    sixteen-over h k = sym (e ∙ from-over 16 (most + 1) v (drop i s) (omega arith) (omega arith))
+
+pub ruleset sixteen-laws = (sixteen-start, read-other, read-on, sixteen-on, sixteen-fits, sixteen-product, sixteen-within, sixteen-over, needs)
 
 -- ---- the bytes that repeated `0x` takes, at byte i of the text
 drop-two : (s : List ℕ) (i : ℕ) → 2 ≤ length s - i → drop i s ≡ getD s i 0 ∷ getD s (i + 1) 0 ∷ drop (i + 2) s

@@ -63,6 +63,27 @@ fn read_digits(digits: &[u8], base: u64, most: u64) -> Numeral
     Numeral::Value(value)
 }
 
+// Sixteen hexadecimal digits, at most `most`: none of them passes 64 bits.
+fn read_sixteen(digits: &[u8], most: u64) -> Numeral
+    requires { ⌜ length (now digits) ≡ 16 ⌝ }
+    ensures { λ r. ⌜ r ≡ numeral 16 (most + 1) (now (digits .entry)) ⌝ }
+{
+    let mut value: u64 = 0;
+    let mut i: usize = 0;
+    while i < 16 {
+        let d = digit_value(digits[i]);
+        if 16 <= d {
+            return Numeral::Nothing;
+        }
+        value = value * 16 + d;
+        i += 1;
+    }
+    if most < value {
+        return Numeral::Nothing;
+    }
+    Numeral::Value(value)
+}
+
 // How many bytes `0x`, once or repeated, take at the start.
 fn prefix_length(text: &[u8]) -> usize
     ensures { λ r. ⌜ (r ≤ length (now (text .entry))) × (drop r (now (text .entry)) ≡ unprefixed (now (text .entry))) ⌝ }
@@ -91,6 +112,9 @@ pub fn read_hexadecimal(text: &[u8], most: u64) -> Numeral
     }
     if rest[0] == 43 {
         return read_digits(&rest[1..], 16, most);
+    }
+    if rest.len() == 16 {
+        return read_sixteen(rest, most);
     }
     read_digits(rest, 16, most)
 }
