@@ -14,10 +14,9 @@
  * Nothing else is owed: any bytes are a source, a prophet list or a bytecode, any numbers an instruction or an entry, and any length of a buffer
  * will do. Nothing is allocated, nothing is kept between calls, and calls from several threads do not disturb each other.
  *
- * The stack that a call takes, measured on x86-64 with a source of 65,536 bytes, a prophet list of 16,384 and their bytecode:
- *    ola_assemble          less than 655,360 bytes: it has a label table of its own there
- *    ola_assemble_parts    less than 65,536 bytes: it chains the table's names there, to find them quickly
- *    every other           less than 1,024 bytes
+ * The stack that a call takes, in bytes, is less than the figure for its function below: tests/c/stack.c compares the two, on x86-64, with a source of
+ * 65,536 bytes, a prophet list of 16,384 and their bytecode. A first call counts too, in which the dynamic linker may look memcpy or memset up on the
+ * same stack; a handler of signals does not.
  */
 #ifndef OLA_H
 #define OLA_H
@@ -29,6 +28,12 @@
 #ifdef __cplusplus
 extern "C" {
 #endif
+
+/* The stack of ola_assemble, which has a label table of its own there; of ola_assemble_parts, which chains the table's names there, to find them quickly;
+   of every other function. */
+#define OLA_STACK_ASSEMBLE 655360
+#define OLA_STACK_ASSEMBLE_PARTS 65536
+#define OLA_STACK_OTHER 8192
 
 /* An entry of the label table. Kind: 0 call, 1 .LBL, 2 prophet. Start and length: the name's place in the source, without its colon. Address:
    what the row marks (a prophet label's host); unmapped: address 0. */
