@@ -1,6 +1,6 @@
 /* The Ola assembler and bytecode reader for C and other languages: target/staticlib/libola_c.a, which `rt staticlib ola_c` writes.
  *
- * Every function but ola_label_name answers a struct whose first field is a refusal: 0 means accepted, 1 to 24 are the refusals of the scope
+ * Every function but ola_version and ola_label_name answers a struct whose first field is a refusal: 0 means accepted, 1 to 24 are the refusals of the scope
  * document, 255, which is this interface's own, an instruction whose numbers name none. On refusal every other field but the detail is 0 (a
  * step's line stays where it was), and what was lent is as it was, but that refusals above 7 of assembling leave the label table filled.
  *
@@ -28,6 +28,11 @@
 #ifdef __cplusplus
 extern "C" {
 #endif
+
+/* The version of this header, and that of the library. A caller compares the two before any other call: structs come back by value, so a header of another
+   version over the library would corrupt the caller's stack. It is raised whenever a struct, a signature or an answer changes. */
+#define OLA_VERSION 1
+uint64_t ola_version(void);
 
 /* The stack of ola_assemble, which has a label table of its own there; of ola_assemble_parts, which chains the table's names there, to find them quickly;
    of every other function. */

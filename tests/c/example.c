@@ -413,6 +413,7 @@ static void longest(void)
 
 int main(void)
 {
+    say("version: the header's", ola_version() == OLA_VERSION);
     assembling();
     assembling_entries();
     naming();

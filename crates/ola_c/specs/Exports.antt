@@ -17,6 +17,10 @@ use Rattle.ola_answers.specs.declared.OlaEncoding.{OlaEncoding}
 use Rattle.ola_steps.specs.Steps.{stepOf}
 use Rattle.ola_steps.specs.declared.OlaStep.{OlaStep}
 
+-- the version of the interface, as docs/CHANGES.md tells it
+abbrev pub version : ℕ
+version = 1
+
 -- a call of next by its line
 abbrev pub lineStep : Stepped → OlaStep
 lineStep s = stepOf (s .answer) (s .line)

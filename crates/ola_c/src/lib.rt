@@ -21,7 +21,18 @@ ghost use Rattle.decoder.specs.Steps.{acceptedOf, stepped, steppedAt};
 ghost use Rattle.ola_places.specs.Places.{instructionIn};
 ghost use Rattle.ola_answers.specs.Answers.{assemblyOf, writtenOf, namePart};
 ghost use Rattle.ola_steps.specs.Steps.{openedOf};
-ghost use Rattle.ola_c.specs.Exports.{lineStep, offsetStep, encodingNamed, listed, listedText};
+ghost use Rattle.ola_c.specs.Exports.{version, lineStep, offsetStep, encodingNamed, listed, listedText};
+
+// The version of this interface: that of include/ola.h. It is raised whenever a struct, a signature or an answer changes.
+pub const OLA_VERSION: u64 = 1;
+
+// The version of the library, which a caller compares with its header's.
+#[no_mangle]
+pub extern "C" fn ola_version() -> u64
+    ensures { λ r. ⌜ r ≡ version ⌝ }
+{
+    OLA_VERSION
+}
 
 // Assembles a source with a prophet list over parallel arrays.
 #[no_mangle]

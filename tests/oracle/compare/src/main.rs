@@ -2,12 +2,14 @@
 //! instructions read, listing rows, encodings, and what is left in every lent buffer, past its end too. Where document 01 departs from the Rust, or says what
 //! the Rust does not tell, paper.rs takes the Rust's place.
 //!   compare [COUNT] [SEED]      default 20000 and 1
-//! First the cases of the papers, then the whole lists (of a small count every so-many-th of them, at most half of the count), then random cases.
+//! First the cases of the papers and, from the file that MANUAL names, the manual's examples, then the whole lists (of a small count every so-many-th of them,
+//! at most half of the count), then random cases.
 //! With DRY=1 only the Rust runs. With TRACE=1 each case is printed before it runs.
 //! Exit status: 0 no difference; 1 a difference, or a function of the port that was never called.
 mod check;
 mod generate;
 mod lists;
+mod manual;
 mod named;
 mod paper;
 mod port;
@@ -93,6 +95,14 @@ impl Run {
         }
     }
 
+    fn manual(&mut self, path: &str) {
+        let examples = manual::all(path);
+        let count = self.begin("examples of the manual", examples.len());
+        for one in &examples {
+            self.case(count, "the manual", &one.case, &one.expected);
+        }
+    }
+
     /// At most so many cases of the whole lists together, of each its share.
     fn lists(&mut self, most: usize) {
         let total: usize = lists::LISTS.iter().map(|list| list.len).sum();
@@ -153,6 +163,9 @@ fn main() {
     oracle::silence();
     let mut run = Run { checker: Checker::new(set("DRY")), trace: set("TRACE"), cases: 0, differences: 0, counts: vec![] };
     run.named();
+    if let Ok(path) = std::env::var("MANUAL") {
+        run.manual(&path);
+    }
     run.lists(count / 2);
     run.random(count, seed);
     run.report();
