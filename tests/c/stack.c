@@ -43,6 +43,11 @@ static uint64_t addresses[ENTRIES], words[WORDS], hosts[HOSTS];
 /* The greatest number of document 01, p - 1. */
 #define GREATEST UINT64_C(0xFFFFFFFF00000000)
 
+static void version(void)
+{
+    ola_version();
+}
+
 static void assemble(void)
 {
     ola_assemble(shared->source, SOURCE, shared->prophets, PROPHETS, table, ENTRIES, words, WORDS, hosts, HOSTS);
@@ -129,6 +134,7 @@ static void listing_row(void)
 }
 
 static const struct { const char *name; void (*calls)(void); size_t figure; } FUNCTIONS[] = {
+    { "ola_version", version, OLA_STACK_OTHER },
     { "ola_assemble", assemble, OLA_STACK_ASSEMBLE },
     { "ola_assemble_parts", assemble_parts, OLA_STACK_ASSEMBLE_PARTS },
     { "ola_label_name", label_name, OLA_STACK_OTHER },
