@@ -71,8 +71,8 @@ missing-no-number o = go (isMov o)
 -- ---- numbers
 
 -- the number of a second line is below p
-second-below : (l : List ℕ) (v : ImmediateValue) → secondOfLine l ≡ IsNumber v → v .number < order
-second-below l v e = go (hasPrefix l) (hexadecimal order l) refl e
+second-line-below : (l : List ℕ) (v : ImmediateValue) → secondOfLine l ≡ IsNumber v → v .number < order
+second-line-below l v e = go (hasPrefix l) (hexadecimal order l) refl e
   where
     go : (t : Bool) (n : Numeral) → hexadecimal order l ≡ n → cond t (numberFound n) (numberOf l) ≡ IsNumber v → v .number < order
     go true (Value m) f e = let w : immediate m ≡ v = cc in rw (← w) (hexadecimal-below order m l f)
@@ -81,7 +81,7 @@ second-below l v e = go (hasPrefix l) (hexadecimal order l) refl e
 
 -- ---- the operation
 
--- a word in which mload or mstore is found shows that it has a second
+-- a first word in which mload or mstore is found shows that it has a second
 memory-second : (w : ℕ) (o : OlaOpcode) → operationIn w ≡ IsOpcode o → isMemory o ≡ true → hasSecond w ≡ true
 memory-second w o e m = go (operationBit o) (first-holds (λ q. bit (operationBit q) w) operations o e) m
   where
@@ -92,6 +92,7 @@ memory-second w o e m = go (operationBit o) (first-holds (λ q. bit (operationBi
         at true f m = rw (ap (λ n. bit n w) (sym (eqb-true k 22 f)) ∙ h, or-true (bit 62 w))
         at false f m = rw (ap (λ n. bit n w) (sym (eqb-true k 21 m)) ∙ h) (or-true (bit 62 w || bit 22 w))
 
+-- so in one that shows none another operation is found
 not-memory : (w : ℕ) (o : OlaOpcode) → operationIn w ≡ IsOpcode o → hasSecond w ≡ false → isMemory o ≡ false
 not-memory w o e h = go (isMemory o) refl
   where
@@ -101,8 +102,8 @@ not-memory w o e h = go (isMemory o) refl
 
 -- ---- what decoding answers
 
--- Whatever the index is: an instruction that, with mov's psp taken as empty, is of canonical form, and whose numbers are below p; or a refusal
--- with that index, which is never 20.
+-- whatever the index is: an instruction that, with mov's psp taken as empty, is of canonical form, and whose numbers are below p; or a refusal
+-- with that index, and its number is not 20
 pub data Outcome : (ℕ → Answer BinaryInstruction) → Type 0 where
   reads : (i : BinaryInstruction) → CanonicalForm (asCanonical i) → InOrder i → Outcome (λ k. ok i)
   refuses : (n : ℕ) → eqb n 20 ≡ false → Outcome (λ k. refused n k)
@@ -131,7 +132,8 @@ module _ (o : OlaOpcode) where
         go true m = memory-outcome m (bit 62 w) (registerIn Dst w) (registerIn Op0 w) (registerIn Op1 w)
         go false m = number-outcome m (registerIn Op0 w) (registerIn Dst w)
 
-  alone-outcome : isMemory o ≡ false → (op0 op1 dst : RegisterFound) → Outcome (λ k. ok (made o (registerOr Empty op0) (registerOr (missingOp1 o) op1) (registerOr Empty dst)))
+  alone-outcome : isMemory o ≡ false → (op0 op1 dst : RegisterFound)
+      → Outcome (λ k. ok (made o (registerOr Empty op0) (registerOr (missingOp1 o) op1) (registerOr Empty dst)))
   alone-outcome m op0 op1 dst =
       reads (made o (registerOr Empty op0) (registerOr (missingOp1 o) op1) (registerOr Empty dst))
       (rw (content-there op0, op1-there o op1, content-there dst) (plain o (registerThere op0) (registerThere op1) (registerThere dst) m))
@@ -143,11 +145,11 @@ module _ (o : OlaOpcode) where
 
   due-outcome : (w : ℕ) (l : List ℕ) (t : Bool) (n : ImmediateFound) → secondOfLine l ≡ n → Outcome (λ k. cond t (onNumber k o w n) (refused 17 k))
   unfolding onNumber
-  due-outcome w l true (IsNumber v) e = with-outcome v (second-below l v e) w
+  due-outcome w l true (IsNumber v) e = with-outcome v (second-line-below l v e) w
   due-outcome w l true NoNumber e = refuses 18 refl
   due-outcome w l false n e = refuses 17 refl
 
--- a line that is due is here
+-- a second line that is due is here
 operation-outcome : (w : ℕ) (p : OpcodeFound) → operationIn w ≡ p → (second : Option (List ℕ)) → (not (hasSecond w) || isHere second) ≡ true
     → Outcome (λ k. onOperation k w p second)
 unfolding onOperation
@@ -164,15 +166,16 @@ unfolding onFirst
 first-outcome NoNumeral second c = refuses 15 refl
 first-outcome (Value w) second c = operation-outcome w (operationIn w) refl second c
 
+-- Decoding a complete instruction has one of these outcomes.
 pub group-outcome : (g : Group (List ℕ)) → isComplete g ≡ true → Outcome (λ k. groupDecoded k g)
 group-outcome g c = first-outcome (firstOfLine (g .first)) (g .second) c
 
--- what an instruction was read from reads as it at any index
-pub record ReadAs (f : ℕ → Answer BinaryInstruction) (i : BinaryInstruction) : Type 0 where
+-- an instruction that was read: at any index it is the same, and it has that form
+pub record WasRead (f : ℕ → Answer BinaryInstruction) (i : BinaryInstruction) : Type 0 where
   pub any-index : (k : ℕ) → f k ≡ ok i
   pub form : CanonicalForm (asCanonical i)
   pub order : InOrder i
 
-pub outcome-read : (f : ℕ → Answer BinaryInstruction) → Outcome f → (j : ℕ) (i : BinaryInstruction) → f j ≡ ok i → ReadAs f i
-outcome-read f (reads i′ c o) j i e = subst (ReadAs (λ k. ok i′)) (ok-same e) (record { any-index = λ k. refl; form = c; order = o })
+pub outcome-read : (f : ℕ → Answer BinaryInstruction) → Outcome f → (j : ℕ) (i : BinaryInstruction) → f j ≡ ok i → WasRead f i
+outcome-read f (reads i′ c o) j i e = subst (WasRead (λ k. ok i′)) (ok-same e) (record { any-index = λ k. refl; form = c; order = o })
 outcome-read f (refuses n h) j i e = absurd (not-ok e)

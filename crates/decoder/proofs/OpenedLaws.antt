@@ -21,32 +21,33 @@ use Rattle.decoder.specs.AsRead.{asCanonical}
 use Rattle.decoder.specs.Open.{allDecoded, opened, Read, firstRead, next, instructionRead, lineAfter, run}
 use Rattle.decoder.proofs.GroupLaws.{grouped-one, grouped-two}
 use Rattle.decoder.proofs.OffsetLaws.{short-next}
-use Rattle.decoder.proofs.DecodeLaws.{group-outcome, ReadAs, outcome-read}
+use Rattle.decoder.proofs.DecodeLaws.{group-outcome, WasRead, outcome-read}
 
 -- ---- the instructions of a text that opens
 
 -- groups, and the instruction read from each
-data ReadFrom : List (Group (List ℕ)) → List BinaryInstruction → Type 0 where
-  nothing-read : ReadFrom [] []
+data AllRead : List (Group (List ℕ)) → List BinaryInstruction → Type 0 where
+  nothing-read : AllRead [] []
   one-read : {g : Group (List ℕ)} {i : BinaryInstruction} {gs : List (Group (List ℕ))} {is : List BinaryInstruction}
-      → ReadAs (λ k. groupDecoded k g) i → ReadFrom gs is → ReadFrom (g ∷ gs) (i ∷ is)
+      → WasRead (λ k. groupDecoded k g) i → AllRead gs is → AllRead (g ∷ gs) (i ∷ is)
 
-all-read : (gs : List (Group (List ℕ))) (j : ℕ) (is : List BinaryInstruction) → allDecoded j (completeOf gs) ≡ ok is → ReadFrom (completeOf gs) is
+-- what decoding every complete group answers, at any first index
+all-read : (gs : List (Group (List ℕ))) (j : ℕ) (is : List BinaryInstruction) → allDecoded j (completeOf gs) ≡ ok is → AllRead (completeOf gs) is
 unfolding allDecoded completeOf
-all-read [] j is e = subst (ReadFrom []) (ok-same e) nothing-read
+all-read [] j is e = subst (AllRead []) (ok-same e) nothing-read
 all-read (g ∷ gs) j is e = go (isComplete g) refl (all-read gs) e
   where
-    go : (t : Bool) → isComplete g ≡ t → ((j : ℕ) (is : List BinaryInstruction) → allDecoded j (completeOf gs) ≡ ok is → ReadFrom (completeOf gs) is)
-        → allDecoded j (cond t (g ∷ completeOf gs) (completeOf gs)) ≡ ok is → ReadFrom (cond t (g ∷ completeOf gs) (completeOf gs)) is
+    go : (t : Bool) → isComplete g ≡ t → ((j : ℕ) (is : List BinaryInstruction) → allDecoded j (completeOf gs) ≡ ok is → AllRead (completeOf gs) is)
+        → allDecoded j (cond t (g ∷ completeOf gs) (completeOf gs)) ≡ ok is → AllRead (cond t (g ∷ completeOf gs) (completeOf gs)) is
     go true c rest e =
         let a = ok-bind (groupDecoded j g) _ is e in
         let b = ok-bind (allDecoded (suc j) (completeOf gs)) _ is (a .2) in
-        subst (ReadFrom (g ∷ completeOf gs)) (ok-same (b .2)) (one-read (outcome-read _ (group-outcome g c) j (a .0) (a .1)) (rest (suc j) (b .0) (b .1)))
+        subst (AllRead (g ∷ completeOf gs)) (ok-same (b .2)) (one-read (outcome-read _ (group-outcome g c) j (a .0) (a .1)) (rest (suc j) (b .0) (b .1)))
     go false c rest e = rest j is e
 
 -- what opening passed, and what it read
 opened-read : (text : List ℕ) (is : List BinaryInstruction) → opened text ≡ ok is
-    → (ltb 524288 (length text) ≡ false) × ReadFrom (completeOf (lineGroups (lines text))) is
+    → (ltb 524288 (length text) ≡ false) × AllRead (completeOf (lineGroups (lines text))) is
 unfolding opened
 opened-read text is e =
     let a = if-passed _ _ _ is e in
@@ -55,7 +56,7 @@ opened-read text is e =
 
 -- ---- their form
 
-forms-read : (gs : List (Group (List ℕ))) (is : List BinaryInstruction) → ReadFrom gs is → All CanonicalForm (map asCanonical is) × All InOrder is
+forms-read : (gs : List (Group (List ℕ))) (is : List BinaryInstruction) → AllRead gs is → All CanonicalForm (map asCanonical is) × All InOrder is
 forms-read gs is nothing-read = (none-left, none-left)
 forms-read gs is (one-read {gs = hs} {is = js} r rs) = let f = forms-read hs js rs in (one-more (r .form) (f .0), one-more (r .order) (f .1))
 
@@ -103,31 +104,31 @@ module _ (text : List ℕ) (h : ltb 524288 (length text) ≡ false) where
 
   -- that k calls, from any line where the groups of some instructions are left, answer these
   abbrev RunsOn : ℕ → Type 0
-  RunsOn k = (line : ℕ) (is : List BinaryInstruction) → ReadFrom (completeOf (groupsLeft line)) is → run k text line ≡ answers k is
+  RunsOn k = (line : ℕ) (is : List BinaryInstruction) → AllRead (completeOf (groupsLeft line)) is → run k text line ≡ answers k is
 
   module _ (k : ℕ) (rest : RunsOn k) (line : ℕ) where
     -- where no complete instruction is left, this call and those after it say so
-    stays : next text line ≡ refused 20 0 → (is : List BinaryInstruction) → ReadFrom (completeOf (groupsLeft line)) is → ReadFrom [] is
+    stays : next text line ≡ refused 20 0 → (is : List BinaryInstruction) → AllRead (completeOf (groupsLeft line)) is → AllRead [] is
         → run (suc k) text line ≡ answers (suc k) is
     stays e is r nothing-read =
         run-step k text line (refused 20 0) e ∙ ap (λ as′. refused 20 0 ∷ as′) (rest line [] r ∙ answers-none k) ∙ sym (answers-none (suc k))
 
     -- where one is, it is read, and those after it are left
     moves : (g : Group (List ℕ)) → ((i : BinaryInstruction) → groupDecoded 0 g ≡ ok i → next text line ≡ ok (record { instruction = i; line = line + linesIn g }))
-        → (is : List BinaryInstruction) → ReadFrom (g ∷ completeOf (lineGroups (drop (linesIn g) (drop line (lines text))))) is
+        → (is : List BinaryInstruction) → AllRead (g ∷ completeOf (lineGroups (drop (linesIn g) (drop line (lines text))))) is
         → run (suc k) text line ≡ answers (suc k) is
     moves g e is (one-read {i = i} {is = js} d rs) =
         run-step k text line (ok (record { instruction = i; line = line + linesIn g })) (e i (d .any-index 0))
-        ∙ ap (λ as′. ok i ∷ as′) (rest (line + linesIn g) js (subst (λ ls. ReadFrom (completeOf (lineGroups ls)) js) (drop-drop (linesIn g) line (lines text)) rs))
+        ∙ ap (λ as′. ok i ∷ as′) (rest (line + linesIn g) js (subst (λ ls. AllRead (completeOf (lineGroups ls)) js) (drop-drop (linesIn g) line (lines text)) rs))
         ∙ sym (answers-some k i js)
 
-    one-call : Ahead (drop line (lines text)) → (is : List BinaryInstruction) → ReadFrom (completeOf (groupsLeft line)) is
+    one-call : Ahead (drop line (lines text)) → (is : List BinaryInstruction) → AllRead (completeOf (groupsLeft line)) is
         → run (suc k) text line ≡ answers (suc k) is
     unfolding firstRead completeOf _>>=_
-    one-call (none-complete c f) is r = stays (short-next text h line ∙ f line) is r (subst (λ gs. ReadFrom gs is) c r)
+    one-call (none-complete c f) is r = stays (short-next text h line ∙ f line) is r (subst (λ gs. AllRead gs is) c r)
     one-call (one-complete g c f) is r =
         moves g (λ i d. short-next text h line ∙ ap (firstRead line) f ∙ rw (c, d)) is
-        (subst (λ gs. ReadFrom gs is) (ap completeOf f ∙ rw c) r)
+        (subst (λ gs. AllRead gs is) (ap completeOf f ∙ rw c) r)
 
   run-from : (k : ℕ) → RunsOn k
   unfolding run

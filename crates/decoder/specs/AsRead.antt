@@ -1,4 +1,4 @@
--- An instruction as it reads back, "mov's empty source place reads as psp", and one that was read as a canonical one.
+-- An instruction as it reads back, "mov's empty source place reads as psp", and that undone.
 use mathlib.Core.Bool.{cond}
 use Rattle.vm_opcodes.specs.declared.OlaOpcode.{OlaOpcode}
 use Rattle.vm_hardware.specs.declared.OlaSpecialRegister.the-variants.{PC, PSP}
@@ -20,7 +20,7 @@ op1AsRead o (SpecialReg s) = SpecialReg s
 abbrev pub asRead : BinaryInstruction → BinaryInstruction
 asRead i = made (i .opcode) (i .op0) (op1AsRead (i .opcode) (i .op1)) (i .dst)
 
--- "mov's psp counts as empty here": psp in the source place of mov is taken as empty, any other content as it stands
+-- "mov's psp counts as empty here"
 abbrev pub op1AsCanonical : OlaOpcode → OlaOperand → OlaOperand
 op1AsCanonical o Empty = Empty
 op1AsCanonical o (ImmediateOperand v) = ImmediateOperand v
@@ -30,5 +30,6 @@ op1AsCanonical o (RegisterWithFactor r v) = RegisterWithFactor r v
 op1AsCanonical o (SpecialReg PC) = SpecialReg PC
 op1AsCanonical o (SpecialReg PSP) = cond (isMov o) Empty (SpecialReg PSP)
 
+-- an instruction with psp in mov's source place taken as empty; every other content and every other operation stays
 abbrev pub asCanonical : BinaryInstruction → BinaryInstruction
 asCanonical i = made (i .opcode) (i .op0) (op1AsCanonical (i .opcode) (i .op1)) (i .dst)

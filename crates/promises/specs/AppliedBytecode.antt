@@ -1,9 +1,9 @@
--- The promises on any text that opens, applied to bytecode that is no accepted source's: a bit too many, a number in decimal, a last word that lacks its second.
+-- The promises on any text that opens, applied to bytecode that no source has: a register bit too many, a number in decimal, a last word without its second line.
 use Prim.Native.Nat.{ℕ}
 use mathlib.Core.Path.{_≡_, refl}
 use mathlib.Core.List.{List, [], _∷_, map}
 use Rattle.text.specs.Bytes.{bytes, isDigit}
-use Rattle.text.specs.Scan.{scan, all, parts}
+use Rattle.text.specs.Scan.{all, parts}
 use Rattle.text.specs.Lines.{lines, ended}
 use Rattle.text.specs.Answer.{Answer, ok, refused, _>>=_, _>>_, refuseIf, refuseAt}
 use Rattle.text.proofs.All.{All}
@@ -20,7 +20,7 @@ use Rattle.program.specs.Groups.{grouped}
 use Rattle.program.specs.declared.BinaryInstruction.{BinaryInstruction}
 use Rattle.program.proofs.CanonicalForm.{CanonicalForm, InOrder}
 use Rattle.decoder.specs.Lines.{completeOf, firstUnreadable}
-use Rattle.decoder.specs.Decode.{memoryBuilt, builtWith, onNumber, onOperation, onFirst}
+use Rattle.decoder.specs.Decode.{builtWith, onNumber, onOperation, onFirst}
 use Rattle.decoder.specs.Open.{allDecoded, opened, run}
 use Rattle.promises.specs.Promises.{opened-run, opened-form}
 
@@ -32,12 +32,13 @@ abbrev strangeRead : List BinaryInstruction
 strangeRead = made RET Empty Empty (RegisterOperand R1) ∷ made MOV Empty (SpecialReg PSP) (RegisterOperand R1) ∷ made CALL Empty (aNumber 10) Empty ∷ []
 
 strange-opens : opened strange ≡ ok strangeRead
-unfolding isDigit scan all parts lines ended _>>=_ _>>_ refuseIf refuseAt digitValue valueFrom numeral unprefixed hexadecimal operations firstOperation registers firstRegister signed numberOf grouped completeOf firstUnreadable memoryBuilt builtWith onNumber onOperation onFirst allDecoded opened
+unfolding isDigit all parts lines ended _>>=_ _>>_ refuseIf refuseAt digitValue valueFrom numeral unprefixed hexadecimal operations firstOperation registers firstRegister signed numberOf grouped completeOf firstUnreadable builtWith onNumber onOperation onFirst allDecoded opened
 strange-opens = refl
 
 -- five calls: the three instructions, dst r1 in the first, psp in the second, ten in the third; then 20 twice
 strange-run : run 5 strange 0
-    ≡ ok (made RET Empty Empty (RegisterOperand R1)) ∷ ok (made MOV Empty (SpecialReg PSP) (RegisterOperand R1)) ∷ ok (made CALL Empty (aNumber 10) Empty) ∷ refused 20 0 ∷ refused 20 0 ∷ []
+    ≡ ok (made RET Empty Empty (RegisterOperand R1)) ∷ ok (made MOV Empty (SpecialReg PSP) (RegisterOperand R1)) ∷ ok (made CALL Empty (aNumber 10) Empty)
+    ∷ refused 20 0 ∷ refused 20 0 ∷ []
 strange-run = opened-run strange strangeRead strange-opens 5
 
 -- their forms, the mov's with an empty source
