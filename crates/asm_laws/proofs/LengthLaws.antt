@@ -16,13 +16,13 @@ use Rattle.text.specs.Lines.{isFeed}
 use Rattle.text.proofs.Laws.{scan-le}
 use Rattle.text.proofs.SameLaws.{same-equal}
 use Rattle.text.proofs.SumLaws.{spaced, parts-total}
-use Rattle.vm_opcodes.specs.Operations.{operations, firstOperation, rowPlaces}
+use Rattle.vm_opcodes.specs.Operations.{operations, rowPlaces}
 use Rattle.vm_opcodes.specs.declared.OlaOpcode.{OlaOpcode}
 use Rattle.vm_opcodes.specs.declared.OpcodeFound.{OpcodeFound}
 use Rattle.vm_opcodes.specs.declared.OpcodeFound.the-variants.{Is as IsOpcode, Nothing as NoOpcode}
 use Rattle.vm_opcodes.specs.declared.RowPlaces.{RowPlaces}
 use Rattle.vm_opcodes.specs.declared.RowPlaces.the-variants.{DstOp0Op1, DstOp1, DstMemory, MemoryDst, Op0Op1, Op1, Bare}
-use Rattle.vm_opcodes.proofs.Laws.{every-operation}
+use Rattle.vm_opcodes.proofs.Laws.{every-operation, first-holds}
 use Rattle.vm_mnemonics.specs.Mnemonics.{mnemonic, operationOf}
 use Rattle.vm_hardware.specs.Registers.{registerOf, specialOf}
 use Rattle.asm.specs.Parts.{Part, placed, filledParts, withoutComment, piecesFrom, linePieces, rowPieces, sourcePieces}
@@ -141,15 +141,6 @@ least-six o e =
     (ap (λ (t : Bool). t || leb 6 (leastBytes o)) (sym e) ∙ every-operation (λ o. isBare (rowPlaces o) || leb 6 (leastBytes o)) refl o)
 
 -- ---- the bytes of an instruction row
-
-first-holds : (f : OlaOpcode → Bool) (os : List OlaOpcode) (o : OlaOpcode) → firstOperation f os ≡ IsOpcode o → f o ≡ true
-unfolding firstOperation
-first-holds f [] o h = cc
-first-holds f (x ∷ os) o h = go (f x) refl (first-holds f os o) h
-  where
-    go : (t : Bool) → f x ≡ t → (firstOperation f os ≡ IsOpcode o → f o ≡ true) → cond t (IsOpcode x) (firstOperation f os) ≡ IsOpcode o → f o ≡ true
-    go true e r h = cc
-    go false e r h = r h
 
 -- a piece that is read as an operation is its mnemonic
 pub operation-text : (x : List ℕ) (o : OlaOpcode) → operationOf x ≡ IsOpcode o → x ≡ mnemonic o

@@ -11,10 +11,10 @@ use Rattle.text.specs.Lines.{lines, ended}
 use Rattle.text.specs.Answer.{Answer, ok, refused, _>>=_, _>>_, refuseIf, refuseAt}
 use Rattle.text_read.specs.Numerals.{digitValue, valueFrom, numeral, unprefixed, hexadecimal}
 use Rattle.vm_opcodes.specs.Operations.{operations, firstOperation}
-use Rattle.vm_opcodes.specs.declared.OlaOpcode.the-variants.{ADD, MOV, CALL, RET, MLOAD, MSTORE, END}
+use Rattle.vm_opcodes.specs.declared.OlaOpcode.the-variants.{ADD, MOV, CALL, RET, MLOAD, MSTORE, NOT, END}
 use Rattle.vm_hardware.specs.Registers.{registers, firstRegister}
 use Rattle.vm_hardware.specs.declared.OlaRegister.the-variants.{R0, R1, R2, R3}
-use Rattle.vm_hardware.specs.declared.OlaSpecialRegister.the-variants.{PSP}
+use Rattle.vm_hardware.specs.declared.OlaSpecialRegister.the-variants.{PC, PSP}
 use Rattle.vm_operands.specs.Numbers.{immediate, signed, numberOf}
 use Rattle.vm_operands.specs.declared.OlaOperand.the-variants.{Empty, RegisterOperand, RegisterWithFactor, SpecialReg}
 use Rattle.program.specs.Instructions.{made, aNumber}
@@ -22,6 +22,7 @@ use Rattle.program.specs.Groups.{grouped}
 use Rattle.program.specs.declared.BinaryInstruction.{BinaryInstruction}
 use Rattle.decoder.specs.Lines.{completeOf, firstUnreadable}
 use Rattle.decoder.specs.Decode.{memoryBuilt, builtWith, onNumber, onOperation, onFirst}
+use Rattle.decoder.specs.AsRead.{asCanonical}
 use Rattle.decoder.specs.Open.{Read, nextNumber, nextDetail, allDecoded, opened, firstRead, next, run}
 use Rattle.decoder.specs.declared.OpenRefusal.the-variants.{TextTooLong, FirstWordUnreadable, NoOperation, LineTooMany, SecondLineUnreadable, RegisterMissing}
 use Rattle.decoder.specs.declared.NextRefusal.{NextRefusal}
@@ -146,6 +147,15 @@ refusalCases =
     ∷ (nextRefused NoneLeft, refused 20 0)
     ∷ []
 
+-- psp is taken as empty for mov alone, and in op1 alone
+abbrev canonicalCases : List (BinaryInstruction × BinaryInstruction)
+canonicalCases =
+    (made MOV Empty (SpecialReg PSP) (RegisterOperand R1), made MOV Empty Empty (RegisterOperand R1))
+    ∷ (made MOV Empty (SpecialReg PC) (RegisterOperand R1), made MOV Empty (SpecialReg PC) (RegisterOperand R1))
+    ∷ (made MOV (SpecialReg PSP) (aNumber 7) (SpecialReg PSP), made MOV (SpecialReg PSP) (aNumber 7) (SpecialReg PSP))
+    ∷ (made NOT Empty (SpecialReg PSP) (RegisterOperand R1), made NOT Empty (SpecialReg PSP) (RegisterOperand R1))
+    ∷ []
+
 -- the cases are exported, since modules that export are checked first: a wrong definition is told by its case, then by the laws
 pub opens-right : map (λ c. opened (c .0)) openCases ≡ map (λ c. c .1) openCases
 unfolding isDigit scan all parts lines ended _>>=_ _>>_ refuseIf refuseAt digitValue valueFrom numeral unprefixed hexadecimal operations firstOperation registers firstRegister signed numberOf grouped completeOf firstUnreadable memoryBuilt builtWith onNumber onOperation onFirst allDecoded opened firstRead next run
@@ -158,6 +168,9 @@ nexts-right = refl
 pub runs-right : map (λ c. run (c .0) (c .1) 0) runCases ≡ map (λ c. c .2) runCases
 unfolding isDigit scan all parts lines ended _>>=_ _>>_ refuseIf refuseAt digitValue valueFrom numeral unprefixed hexadecimal operations firstOperation registers firstRegister signed numberOf grouped completeOf firstUnreadable memoryBuilt builtWith onNumber onOperation onFirst allDecoded opened firstRead next run
 runs-right = refl
+
+pub canonicals-right : map (λ c. asCanonical (c .0)) canonicalCases ≡ map (λ c. c .1) canonicalCases
+canonicals-right = refl
 
 pub refusals-right : map (λ c. c .0) refusalCases ≡ map (λ c. c .1) refusalCases
 refusals-right = refl

@@ -1,20 +1,18 @@
 -- A program's words, and the lines of its bytecode, part into its instructions.
-use Prim.Native.Nat.{ℕ, zero, suc, _^_, _<_}
-use mathlib.Core.Path.{_≡_, refl, sym, ap, _∙_}
+use Prim.Native.Nat.{ℕ, _^_, _<_}
+use mathlib.Core.Path.{_≡_, refl, ap, _∙_}
 use mathlib.Core.List.{List, [], _∷_, _++_, map}
 use mathlib.Core.Bool.{Bool, true, false}
 use mathlib.Core.Option.{Option, none, some}
-use lib.ListN.{length, take, drop, length-append}
-use lib.Seq.{drop-drop}
 use Rattle.text.specs.Answer.{ok}
-use Rattle.text.proofs.All.{All, none-left, one-more}
+use Rattle.text.proofs.All.{All, one-more}
 use Rattle.text_write.specs.Digits.{fewestText, sixteenText}
-use Rattle.program.specs.Words.{firstWord, secondWord, inOrder, wordsOf, programWords}
+use Rattle.program.specs.Words.{firstWord, secondWord, inOrder, programWords}
 use Rattle.program.specs.Groups.{Group, grouped, hasSecond, wordGroups}
 use Rattle.program.specs.Bytecode.{groupLines, linesOfGroups, wordLines}
 use Rattle.program.specs.declared.BinaryInstruction.{BinaryInstruction}
 use Rattle.program.proofs.FormLaws.{isSome}
-use Rattle.decoder.specs.Lines.{firstOfLine, isReadable, lineHasSecond, lineGroups, isComplete, linesIn}
+use Rattle.decoder.specs.Lines.{firstOfLine, isReadable, lineHasSecond, lineGroups, isComplete}
 use Rattle.decoder.specs.Decode.{decoded, onFirst, groupDecoded}
 use Rattle.decoder.specs.AsRead.{asRead}
 use Rattle.decoder.proofs.TextLaws.{first-read}
@@ -88,14 +86,6 @@ groups-lines is c = ap lineGroups (lines-words is c) ∙ lines-parted is c
 
 -- ---- each group
 
--- as many lines as words
-lines-of : (w : ℕ) (v : Option ℕ) → linesIn (record { first = sixteenText w; second = lineOf v }) ≡ length (inOrder w v)
-lines-of w none = refl
-lines-of w (some v) = refl
-
-pub lines-in : (i : BinaryInstruction) → linesIn (lineGroupOf i) ≡ length (wordsOf i)
-lines-in i = lines-of (firstWord i) (secondWord i)
-
 complete : (w : ℕ) (v : Option ℕ) → w < 2 ^ 64 → hasSecond w ≡ isSome v → isComplete (record { first = sixteenText w; second = lineOf v }) ≡ true
 complete w none b h = rw (line-shows w b ∙ h)
 complete w (some v) b h = rw (line-shows w b ∙ h)
@@ -110,30 +100,3 @@ module _ (i : BinaryInstruction) (r : Readable i) where
   pub group-decoded : (k : ℕ) → groupDecoded k (lineGroupOf i) ≡ ok (asRead i)
   unfolding onFirst
   group-decoded k = ap (λ w. onFirst k w (lineOf (secondWord i))) (first-read (firstWord i) (r .first-below)) ∙ r .decodes k
-
--- ---- the lines that are left
-
--- behind the lines of one instruction
-group-dropped : (w : ℕ) (v : Option ℕ) (ls : List (List ℕ)) → drop (length (inOrder w v)) (groupLines (record { first = w; second = v }) ++ ls) ≡ ls
-group-dropped w none ls = refl
-group-dropped w (some v) ls = refl
-
-pub lines-behind : (i : BinaryInstruction) (is : List BinaryInstruction) → All Readable (i ∷ is)
-    → drop (length (wordsOf i)) (wordLines (programWords (i ∷ is))) ≡ wordLines (programWords is)
-unfolding linesOfGroups
-lines-behind i is (one-more r c) =
-    ap (drop (length (wordsOf i))) (lines-words (i ∷ is) (one-more r c))
-    ∙ group-dropped (firstWord i) (secondWord i) (linesOfGroups (map wordGroupOf is))
-    ∙ sym (lines-words is c)
-
--- The lines behind those of the first n instructions are those of the others.
-pub lines-left : (n : ℕ) (is : List BinaryInstruction) → All Readable is
-    → drop (length (programWords (take n is))) (wordLines (programWords is)) ≡ wordLines (programWords (drop n is))
-unfolding programWords
-lines-left zero is c = refl
-lines-left (suc n) [] c = refl
-lines-left (suc n) (i ∷ is) (one-more r c) =
-    ap (λ k. drop k (wordLines (programWords (i ∷ is)))) (length-append (wordsOf i) (programWords (take n is)))
-    ∙ sym (drop-drop (length (programWords (take n is))) (length (wordsOf i)) (wordLines (programWords (i ∷ is))))
-    ∙ ap (drop (length (programWords (take n is)))) (lines-behind i is (one-more r c))
-    ∙ lines-left n is c

@@ -2,6 +2,8 @@ pub mod RoundTrip
 pub mod TextLaws
 pub mod LineLaws
 pub mod GroupLaws
-pub mod RunLaws
+pub mod BytecodeLaws
+pub mod DecodeLaws
 pub mod Cases
 pub mod OffsetLaws
+pub mod OpenedLaws

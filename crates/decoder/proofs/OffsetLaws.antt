@@ -167,7 +167,7 @@ module _ (offset : ℕ) (rest : List ℕ) where
 -- a text within 524,288 bytes, or longer
 module _ (text : List ℕ) where
   module _ (h : ltb 524288 (length text) ≡ false) where
-    short-next : (line : ℕ) → next text line ≡ firstRead line (lineGroups (drop line (lines text)))
+    pub short-next : (line : ℕ) → next text line ≡ firstRead line (lineGroups (drop line (lines text)))
     unfolding next _>>_ refuseIf
     short-next line = rw h
 

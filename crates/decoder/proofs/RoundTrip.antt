@@ -2,16 +2,14 @@
 use Prim.Native.Nat.{ℕ}
 use mathlib.Core.Path.{_≡_, refl, sym, ap, _∙_}
 use mathlib.Core.List.{List}
-use mathlib.Core.Bool.{Bool, true, false, _||_, cond}
+use mathlib.Core.Bool.{Bool, true, false, _||_}
 use mathlib.Core.Option.{Option, none, some}
 use Rattle.text.specs.Answer.{ok}
 use Rattle.vm_opcodes.specs.declared.OlaOpcode.{OlaOpcode}
 use Rattle.vm_hardware.specs.declared.OlaRegister.{OlaRegister}
-use Rattle.vm_hardware.specs.declared.OlaSpecialRegister.the-variants.{PSP}
 use Rattle.vm_operands.specs.Numbers.{immediate}
 use Rattle.vm_operands.specs.declared.ImmediateFound.the-variants.{Is as IsNumber}
-use Rattle.vm_operands.specs.declared.OlaOperand.{OlaOperand}
-use Rattle.vm_operands.specs.declared.OlaOperand.the-variants.{Empty, ImmediateOperand, RegisterOperand, RegisterWithOffset, RegisterWithFactor, SpecialReg}
+use Rattle.vm_operands.specs.declared.OlaOperand.the-variants.{Empty}
 use Rattle.program.specs.Instructions.{made, registerIn, isMemory, isMov}
 use Rattle.program.specs.Words.{firstWord, secondWord}
 use Rattle.program.specs.declared.BinaryInstruction.{BinaryInstruction}
@@ -20,7 +18,7 @@ use Rattle.program.proofs.WordLaws.{foundOf, finds-operation, finds-op0, finds-
 use Rattle.program.proofs.FormLaws.{isSome, second-none, second-number, second-shows}
 use Rattle.decoder.specs.Lines.{secondOfLine}
 use Rattle.decoder.specs.Decode.{registerOr, missingOp1, memoryBuilt, builtWith, builtAlone, onNumber, twoDue, onOperation, decoded}
-use Rattle.decoder.specs.AsRead.{op1AsRead, asRead}
+use Rattle.decoder.specs.AsRead.{op1AsRead, asRead, op1AsCanonical, asCanonical}
 
 -- ---- what is found in a place is what stands there
 
@@ -72,33 +70,22 @@ decodes-with k l i c v e t f g = rw (f, finds-operation i, two-due i c, e, g) (r
 
 -- ---- reading undone
 
--- a special register taken as an empty place again
-abbrev pub op1Unread : OlaOperand → OlaOperand
-op1Unread Empty = Empty
-op1Unread (ImmediateOperand v) = ImmediateOperand v
-op1Unread (RegisterOperand r) = RegisterOperand r
-op1Unread (RegisterWithOffset r v) = RegisterWithOffset r v
-op1Unread (RegisterWithFactor r v) = RegisterWithFactor r v
-op1Unread (SpecialReg s) = Empty
-
-abbrev pub unread : BinaryInstruction → BinaryInstruction
-unread i = made (i .opcode) (i .op0) (op1Unread (i .op1)) (i .dst)
-
-missing-unread : (o : OlaOpcode) → op1Unread (missingOp1 o) ≡ Empty
-missing-unread o = go (isMov o)
+-- what a place without a number and without a register reads as is empty
+pub missing-empty : (o : OlaOpcode) → op1AsCanonical o (missingOp1 o) ≡ Empty
+missing-empty o = go (isMov o) refl
   where
-    go : (b : Bool) → op1Unread (cond b (SpecialReg PSP) Empty) ≡ Empty
-    go true = refl
-    go false = refl
+    go : (b : Bool) → isMov o ≡ b → op1AsCanonical o (missingOp1 o) ≡ Empty
+    go true e = rw (e, e)
+    go false e = rw e
 
 -- an instruction of canonical form is got back from how it reads
-pub as-read-undone : (i : BinaryInstruction) → CanonicalForm i → unread (asRead i) ≡ i
-as-read-undone i (plain o a none d h) = ap (λ q. made o (orEmpty a) q (orEmpty d)) (missing-unread o)
-as-read-undone i (plain o a (some r) d h) = refl
-as-read-undone i (numbered o a d v h) = refl
-as-read-undone i (offset o a d v h) = refl
-as-read-undone i (factored o a b d v h) = refl
+pub as-canonical : (i : BinaryInstruction) → CanonicalForm i → asCanonical (asRead i) ≡ i
+as-canonical i (plain o a none d h) = ap (λ q. made o (orEmpty a) q (orEmpty d)) (missing-empty o)
+as-canonical i (plain o a (some r) d h) = refl
+as-canonical i (numbered o a d v h) = refl
+as-canonical i (offset o a d v h) = refl
+as-canonical i (factored o a b d v h) = refl
 
 -- canonical instructions that read as one are one
 pub as-read-injective : (i j : BinaryInstruction) → CanonicalForm i → CanonicalForm j → asRead i ≡ asRead j → i ≡ j
-as-read-injective i j ci cj e = sym (as-read-undone i ci) ∙ ap unread e ∙ as-read-undone j cj
+as-read-injective i j ci cj e = sym (as-canonical i ci) ∙ ap asCanonical e ∙ as-canonical j cj

@@ -23,7 +23,7 @@ pub struct Step<'a> {
 }
 
 // Whether a text opens as bytecode, 14 to 19, and the reader at its first line.
-// Promises: bytecode-opens.
+// Promises: bytecode-opens, opened-run, opened-form.
 pub fn open<'a>(text: &'a [u8]) -> Opened<'a>
     ensures { λ r. ⌜ openForm r ≡ openOf (text .entry) ⌝ }
 {
@@ -35,7 +35,7 @@ pub fn open<'a>(text: &'a [u8]) -> Opened<'a>
 }
 
 // The next instruction or why there is none, 14 to 20, and the reader after it.
-// Promises: run-reads, run-by-offsets.
+// Promises: run-reads, run-by-offsets, opened-run, opened-form.
 pub fn next<'a>(bytecode: Bytecode<'a>) -> Step<'a>
     ensures { λ r. ⌜ stepForm r ≡ stepOf (bytecode .entry) ⌝ }
 {

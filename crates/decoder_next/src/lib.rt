@@ -8,7 +8,7 @@ ghost use mathlib.Core.Path.{_≡_};
 ghost use Rattle.decoder.specs.Steps.{stepNumbered, steppedAt};
 
 // The instruction whose first line begins at an offset, as if the text began there, and the offset of the line after it.
-// Promises: run-by-offsets.
+// Promises: run-by-offsets, opened-run, opened-form.
 pub fn next_at(text: &[u8], offset: usize) -> StepAt
     ensures { λ r. ⌜ stepNumbered r ≡ steppedAt (now (text .entry)) offset ⌝ }
 {

@@ -2,7 +2,7 @@
 use Prim.Native.Nat.{ℕ, suc, _+_, _-_, _^_, _<_, _≤_}
 use mathlib.Core.Path.{_≡_, refl, sym, ap, subst, _∙_}
 use mathlib.Core.List.{List, [], _∷_}
-use mathlib.Core.Bool.{Bool, true, false, true≢false, cond}
+use mathlib.Core.Bool.{true, false, true≢false, cond}
 use mathlib.Core.Option.{Option, none, some}
 use native.Mathlib.Omega.{arith}
 use borrow.Author.Needs.{needs}
@@ -12,28 +12,16 @@ use lib.Dec.{eqb}
 use lib.ListN.{length, take, drop}
 use Rattle.text.specs.Lines.{lines}
 use Rattle.text.specs.Answer.{Answer, ok, refused, _>>=_, _>>_, refuseAt}
-use Rattle.vm_opcodes.specs.Operations.{bit, operationIn}
-use Rattle.vm_opcodes.specs.declared.OlaOpcode.{OlaOpcode}
-use Rattle.vm_opcodes.specs.declared.OpcodeFound.{OpcodeFound}
-use Rattle.vm_opcodes.specs.declared.OpcodeFound.the-variants.{Is as IsOpcode, Nothing as NoOpcode}
-use Rattle.vm_hardware.specs.Registers.{registerIn}
-use Rattle.vm_hardware.specs.declared.Place.the-variants.{Op0, Op1, Dst}
-use Rattle.vm_hardware.specs.declared.RegisterFound.{RegisterFound}
-use Rattle.vm_hardware.specs.declared.RegisterFound.the-variants.{Is as IsRegister, Nothing as NoRegister}
-use Rattle.vm_operands.specs.declared.ImmediateValue.{ImmediateValue}
-use Rattle.vm_operands.specs.declared.ImmediateFound.{ImmediateFound}
-use Rattle.vm_operands.specs.declared.ImmediateFound.the-variants.{Is as IsNumber, Nothing as NoNumber}
-use Rattle.vm_operands.specs.declared.OlaOperand.the-variants.{ImmediateOperand}
-use Rattle.program.specs.Instructions.{made, isMemory}
 use Rattle.program.specs.Groups.{Group}
 use Rattle.program.specs.declared.BinaryInstruction.{BinaryInstruction}
-use Rattle.decoder.specs.Lines.{secondOfLine, lineGroups, isComplete, completeOf, firstUnreadable}
-use Rattle.decoder.specs.Decode.{contentIn, memoryBuilt, memoryIn, builtWith, twoDue, onNumber, onOperation, decoded, onFirst, groupDecoded}
+use Rattle.decoder.specs.Lines.{lineGroups, isComplete, completeOf, firstUnreadable}
+use Rattle.decoder.specs.Decode.{decoded, onFirst, groupDecoded}
 use Rattle.decoder.specs.Open.{openNumber, openDetail, allDecoded}
 use Rattle.decoder.specs.Steps.{acceptedOf, openNumbered, ReadAt}
 use Rattle.decoder.specs.declared.Opening.{Opening}
 use Rattle.decoder.specs.declared.OpenRefusal.{OpenRefusal}
 use Rattle.decoder.specs.declared.OpenRefusal.the-variants.{TextTooLong, FirstWordUnreadable, NoOperation, LineTooMany, SecondLineUnreadable, RegisterMissing}
+use Rattle.decoder.proofs.DecodeLaws.{Outcome, reads, refuses, group-outcome}
 use Rattle.decoder_lines.specs.GroupAt.{groupAt}
 use Rattle.decoder_lines.specs.ReadFrom.{readAs, readFrom, atNumbered}
 use Rattle.decoder_lines.specs.declared.GroupAt.{GroupAt}
@@ -52,42 +40,9 @@ abbrev Known : {A : Type 0} → Answer A → Type 0
 Known (ok a) = Unit {0}
 Known (refused n d) = eqb n 20 ≡ false
 
-module _ (k : ℕ) where
-  module _ (o : OlaOpcode) where
-    memory-known : (v : ImmediateValue) (t : Bool) (dst op0 op1 : RegisterFound) → Known (memoryBuilt k o v t dst op0 op1)
-    unfolding memoryBuilt
-    memory-known v t NoRegister op0 op1 = refl
-    memory-known v t (IsRegister d) NoRegister op1 = refl
-    memory-known v true (IsRegister d) (IsRegister a) op1 = tt
-    memory-known v false (IsRegister d) (IsRegister a) NoRegister = refl
-    memory-known v false (IsRegister d) (IsRegister a) (IsRegister b) = tt
-
-    module _ (w : ℕ) where
-      built-known : (v : ImmediateValue) → Known (builtWith k o w v)
-      unfolding builtWith
-      built-known v = go (isMemory o)
-        where
-          go : (t : Bool) → Known (cond t (memoryIn k o w v) (ok (made o (contentIn Op0 w) (ImmediateOperand v) (contentIn Dst w))))
-          go true = memory-known v (bit 62 w) (registerIn Dst w) (registerIn Op0 w) (registerIn Op1 w)
-          go false = tt
-
-      number-known : (n : ImmediateFound) → Known (onNumber k o w n)
-      unfolding onNumber
-      number-known (IsNumber v) = built-known v
-      number-known NoNumber = refl
-
-      due-known : (t : Bool) (n : ImmediateFound) → Known (cond t (onNumber k o w n) (refused 17 k))
-      due-known true n = number-known n
-      due-known false n = refl
-
-  decoded-known : (w : ℕ) (second : Option (List ℕ)) → Known (decoded k w second)
-  unfolding onOperation
-  decoded-known w second = go (operationIn w) second
-    where
-      go : (p : OpcodeFound) (second : Option (List ℕ)) → Known (onOperation k w p second)
-      go NoOpcode second = refl
-      go (IsOpcode o) none = tt
-      go (IsOpcode o) (some l) = due-known o w (twoDue o w) (secondOfLine l)
+outcome-known : (f : ℕ → Answer BinaryInstruction) → Outcome f → (k : ℕ) → Known (f k)
+outcome-known f (reads i c o) k = tt
+outcome-known f (refuses n h) k = h
 
 -- ---- what is left, by the instruction that stands first
 
@@ -141,11 +96,13 @@ module _ (text : List ℕ) (k line at : ℕ) where
     left-refused n d p = left-first ∙ first-refused k g (completeOf gs) n d p
 
     complete-says : (next n : ℕ) → gs ≡ groupsFrom text next → unread ≡ firstUnreadable (line + n) (groupsFrom text next)
-        → (0 < n) × (at + n ≤ next) × (next ≤ length text) → (a : Answer BinaryInstruction) → groupDecoded k g ≡ a → Known a → Says (readAs a n next)
+        → (0 < n) × (at + n ≤ next) × (next ≤ length text) → (a : Answer BinaryInstruction) → groupDecoded k g ≡ a → Says (readAs a n next)
     unfolding readAs _>>=_
-    complete-says next n h u l (ok i) p q =
+    complete-says next n h u l (ok i) p =
         (left-first ∙ first-read k g (completeOf gs) i p ∙ ap (λ (gs : List (Group (List ℕ))). acceptedOf (allDecoded (k + 1) (completeOf gs))) h, u, l .0, l .1, l .2)
-    complete-says next n h u l (refused m d) p q = (left-refused m d p ∙ rw q, λ t. absurd (true≢false (sym t ∙ q)))
+    complete-says next n h u l (refused m d) p =
+        let q = subst Known p (outcome-known _ (group-outcome g f) k) in
+        (left-refused m d p ∙ rw q, λ t. absurd (true≢false (sym t ∙ q)))
 
   -- so does the instruction from the offset on
   says : Says (readFrom k text at)
@@ -171,7 +128,7 @@ module _ (text : List ℕ) (k line at : ℕ) where
           subst Says (reads-single k text at (groupAt text at) refl w next e (decoded k w none) refl (readAs (decoded k w none) 1 next) refl)
           (complete-says (record { first = lineAt text at; second = none }) (groupsFrom text next) (single-groups text at w next e) (rw (f, h))
           next 1 refl (line-single text at line line at refl (groupAt text at) refl w next e) (omega arith, omega arith, single-within text at w next e)
-          (decoded k w none) (rw f) (decoded-known k w none))
+          (decoded k w none) (rw f))
       go (Pair w start n next) e =
           let f = pair-first text at w start n next e in
           let h = pair-two text at w start n next e in
@@ -181,7 +138,7 @@ module _ (text : List ℕ) (k line at : ℕ) where
           subst Says (reads-pair k text at (groupAt text at) refl w start n next e (decoded k w (some l)) (rw j) (readAs (decoded k w (some l)) 2 next) refl)
           (complete-says (record { first = lineAt text at; second = some l }) (groupsFrom text next) (pair-groups text at w start n next e) (rw (f, h))
           next 2 refl (line-pair text at line line at refl (groupAt text at) refl w start n next e) (omega arith, omega arith, pair-within text at w start n next e)
-          (decoded k w (some l)) (rw f) (decoded-known k w (some l)))
+          (decoded k w (some l)) (rw f))
 
 -- what opening answers, 14 aside
 abbrev pub whole : List ℕ → Answer (Unit {0})

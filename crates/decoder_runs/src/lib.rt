@@ -22,7 +22,7 @@ fn line_offset(text: &[u8], line: usize) -> usize
 }
 
 // The instruction from a line on, as if the text began there, and the line reached.
-// Promises: run-reads, run-by-offsets.
+// Promises: run-reads, run-by-offsets, opened-run, opened-form.
 pub fn next_line(text: &[u8], line: usize) -> LineStep
     ensures { λ r. ⌜ lineNumbered r ≡ stepped (now (text .entry)) line ⌝ }
 {
@@ -36,7 +36,7 @@ pub fn next_line(text: &[u8], line: usize) -> LineStep
 }
 
 // What the k-th call, from 0, of a run of calls from the first line answers. After a refusal the reader stays, so every later call answers the same.
-// Promises: nth-reads.
+// Promises: nth-reads, opened-run, opened-form.
 pub fn nth(text: &[u8], k: usize) -> Found
     ensures { λ r. ⌜ foundNumbered r ≡ nthCall (now (text .entry)) k ⌝ }
 {

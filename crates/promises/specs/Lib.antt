@@ -10,3 +10,4 @@ pub mod SameLaws
 pub mod NamePromise
 pub mod Promises
 pub mod Applied
+pub mod AppliedBytecode

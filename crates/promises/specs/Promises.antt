@@ -4,12 +4,13 @@
 -- from its rows, a .words its words, and bytecodeOf (a .words) its bytecode.
 use Prim.Native.Nat.{ℕ, suc, _-_, _≤_}
 use mathlib.Core.Logic.{_↔_}
-use mathlib.Core.Path.{_≡_, sym, ap, subst, _∙_}
+use mathlib.Core.Path.{_≡_, ap, _∙_}
 use mathlib.Core.List.{List, _++_, map}
 use mathlib.Core.Bool.{true}
 use mathlib.Core.Option.{some}
 use lib.ListN.{length, take, getD, replicate, getElem?, length-map}
 use Rattle.text.specs.Answer.{Answer, ok, refused, _>>=_}
+use Rattle.text.proofs.All.{All}
 use Rattle.vm_hardware.specs.declared.Place.{Place}
 use Rattle.asm.specs.Rows.{instructions}
 use Rattle.asm.specs.declared.OlaAsmOperand.the-variants.{Label, Identifier}
@@ -21,14 +22,16 @@ use Rattle.program.specs.Instructions.{aNumber}
 use Rattle.program.specs.Words.{programWords, wordsBefore}
 use Rattle.program.specs.Bytecode.{bytecodeOf, bytecodeWritten, textLeft}
 use Rattle.program.specs.declared.BinaryInstruction.{BinaryInstruction}
+use Rattle.program.proofs.CanonicalForm.{CanonicalForm, InOrder}
 use Rattle.program.proofs.FormLaws.{words-before}
 use Rattle.encoder.specs.Canonical.{namesOf, holderOf}
 use Rattle.encoder.specs.Assemble.{Room, Accepted, assembled, totalsOf, assembledTotals, wordsLeft}
-use Rattle.decoder.specs.AsRead.{asRead}
+use Rattle.decoder.specs.AsRead.{asRead, asCanonical}
 use Rattle.decoder.specs.Open.{opened, run}
 use Rattle.decoder.specs.Steps.{runAt, nthCall}
-use Rattle.decoder.proofs.RunLaws.{opens, runs}
+use Rattle.decoder.proofs.BytecodeLaws.{opens}
 use Rattle.decoder.proofs.OffsetLaws.{run-by-offsets as offsets-run}
+use Rattle.decoder.proofs.OpenedLaws.{opened-run as run-opened, opened-form as form-opened}
 use Rattle.promises.specs.Terms.{SameProgram, allClean, operandAt, contentAt}
 use Rattle.promises.specs.TieLaws.{left-front, bytecode-fits, nth-answer}
 use Rattle.promises.specs.SameLaws.{words-same, bytecode-same}
@@ -71,6 +74,23 @@ module _ (s t prophets others : List ℕ) (room space : Room) (a b : Accepted) (
 pub run-by-offsets : (k : ℕ) (text : List ℕ) → runAt k text 0 ≡ run k text 0
 run-by-offsets k text = offsets-run k text
 
+-- Any text that opens, whoever wrote it.
+module _ (text : List ℕ) (is : List BinaryInstruction) (h : opened text ≡ ok is) where
+  -- Of k calls of next from the first line, each on the reader that the last returned, the first answers are the instructions that opening read, in
+  -- order, and every call left over is refused with 20.
+  -- Of decoder_open::open_text, decoder_bytecode::open and ola_open, given that text; then decoder_bytecode::next, decoder_runs::next_line and ola_next,
+  -- called k times, decoder_next::next_at and ola_next_at by run-by-offsets, and decoder_runs::nth, whose answer is one of this run.
+  -- A bytecode that opens is read to its end without a refusal in between, and what is read is what was judged when it opened.
+  pub opened-run : (k : ℕ) → run k text 0 ≡ map ok (take k is) ++ replicate (k - length is) (refused 20 0)
+  opened-run k = run-opened text is h k
+
+  -- Every instruction read has, with mov's psp taken as empty, one of the forms that instructions of accepted sources have, and its numbers are below p.
+  -- Of the same functions: these are the instructions that they answer.
+  -- In a stranger's bytecode a reviewer meets registers or nothing in op0 and dst, and in op1 besides these a number below p, a register with a factor
+  -- below p in mload and mstore alone, and psp in mov alone.
+  pub opened-form : All CanonicalForm (map asCanonical is) × All InOrder is
+  opened-form = form-opened text is h
+
 -- One accepted source.
 module _ (s prophets : List ℕ) (room : Room) (a : Accepted) (h : assembled s prophets room ≡ ok a) where
   -- Its bytecode opens: none of 14 to 19 comes.
@@ -87,16 +107,16 @@ module _ (s prophets : List ℕ) (room : Room) (a : Accepted) (h : assembled s p
   -- What a reviewer reads back from published words is the program, whole and in order, and nothing else.
   pub run-reads : (k : ℕ) → run k (bytecodeOf (a .words)) 0 ≡ map ok (take k (map asRead (a .program))) ++ replicate (k - length (a .program)) (refused 20 0)
   run-reads k =
-      ap (λ (ws : List ℕ). run k (bytecodeOf ws) 0) (accepted-words s prophets room a h)
-      ∙ runs (a .program) (accepted-readable s prophets room a h) (accepted-short s prophets room a h) k
+      opened-run (bytecodeOf (a .words)) (map asRead (a .program)) bytecode-opens k
+      ∙ ap (λ (n : ℕ). map ok (take k (map asRead (a .program))) ++ replicate (k - n) (refused 20 0)) (length-map (a .program) asRead)
 
   -- The k-th of these calls, from 0, answers the k-th instruction, and 20 where there is none.
   -- Of decoder_runs::nth, which makes the calls.
   -- Asking for one instruction by its number is as good as reading up to it.
   pub nth-reads : (k : ℕ) → nthCall (bytecodeOf (a .words)) k ≡ getD (map ok (map asRead (a .program))) k (refused 20 0)
   nth-reads k =
-      ap (λ (answers : List (Answer BinaryInstruction)). getD answers k (refused 20 0)) (run-reads (suc k))
-      ∙ ap (λ (n : ℕ). getD (map ok (take (suc k) (map asRead (a .program))) ++ replicate (suc k - n) (refused 20 0)) k (refused 20 0)) (sym (length-map (a .program) asRead))
+      ap (λ (answers : List (Answer BinaryInstruction)). getD answers k (refused 20 0))
+      (opened-run (bytecodeOf (a .words)) (map asRead (a .program)) bytecode-opens (suc k))
       ∙ nth-answer (refused 20 0) k (map asRead (a .program))
 
   -- The words before an instruction are the words of the instructions ahead of it.

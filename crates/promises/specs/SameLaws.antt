@@ -11,7 +11,7 @@ use Rattle.program.specs.declared.BinaryInstruction.{BinaryInstruction}
 use Rattle.encoder.specs.Assemble.{Room, Accepted, assembled}
 use Rattle.decoder.specs.AsRead.{asRead}
 use Rattle.decoder.specs.Open.{opened}
-use Rattle.decoder.proofs.RunLaws.{opens}
+use Rattle.decoder.proofs.BytecodeLaws.{opens}
 use Rattle.promises.specs.Terms.{SameProgram, instructionResidue}
 use Rattle.promises.specs.InjectiveLaws.{programs-determine, as-read-programs, residues-same}
 use Rattle.promises.specs.AcceptedLaws.{accepted-form, accepted-order, accepted-words, accepted-readable, accepted-short}

@@ -1,8 +1,8 @@
 -- Document 01's cases, starred and of "Rows and their words" and "Numbers", as one table against the definitions.
-use Prim.Native.Nat.{ℕ}
+use Prim.Native.Nat.{ℕ, _-_}
 use mathlib.Core.Path.{_≡_, refl}
-use mathlib.Core.List.{List, [], _∷_, map}
-use lib.ListN.{length}
+use mathlib.Core.List.{List, [], _∷_, _++_, map}
+use lib.ListN.{length, take, replicate}
 use Rattle.text.specs.Bytes.{bytes, isSpace, isDigit, isLetter, isWord, same}
 use Rattle.text.specs.Lists.{total}
 use Rattle.text.specs.Scan.{scan, all, parts}
@@ -35,7 +35,8 @@ use Rattle.encoder.specs.Assemble.{Room, Accepted, encodedRows, assembled}
 use Rattle.encoder.specs.Printing.{numberedLines, printing}
 use Rattle.decoder.specs.Lines.{completeOf, firstUnreadable}
 use Rattle.decoder.specs.Decode.{memoryBuilt, builtWith, onNumber, onOperation, onFirst}
-use Rattle.decoder.specs.Open.{allDecoded, opened}
+use Rattle.decoder.specs.Open.{allDecoded, opened, run}
+use Rattle.decoder.proofs.OpenedLaws.{opened-run}
 
 -- buffers long enough
 abbrev pub plenty : Room
@@ -53,7 +54,7 @@ pub data Case : Type 0 where
   refusal : List ℕ → ℕ → ℕ → Case
   -- a source and what the printing program prints
   prints : List ℕ → List ℕ → Case
-  -- a bytecode and its instructions
+  -- a bytecode and its instructions, opened and by a run of calls
   reads : List ℕ → List BinaryInstruction → Case
 
 abbrev wordsOk : Answer Accepted → Answer (List ℕ)
@@ -71,7 +72,7 @@ says (words s ws) = wordsOk (assembled s [] plenty) ≡ ok ws
 says (hosts s list hs) = hostsOk (assembled s list plenty) ≡ ok hs
 says (refusal s n d) = wordsOk (assembled s [] plenty) ≡ refused n d
 says (prints s t) = printing s ≡ t
-says (reads s is) = opened s ≡ ok is
+says (reads s is) = (opened s ≡ ok is) × ((k : ℕ) → run k s 0 ≡ map ok (take k is) ++ replicate (k - length is) (refused 20 0))
 
 abbrev pub allSay : List Case → Type 0
 allSay [] = Unit {0}
@@ -106,6 +107,10 @@ cases =
     ∷ refusal (bytes "main:\n\n ; nothing\nend\nload r1") 3 2
     ∷ []
 
+-- the opening computes, and the run follows from it
+reading : (s : List ℕ) (is : List BinaryInstruction) → opened s ≡ ok is → says (reads s is)
+reading s is e = (e, opened-run s is e)
+
 pub cases-hold : allSay cases
 unfolding isSpace isDigit isLetter isWord same scan all parts lines ended _>>=_ _>>_ refuseIf refuseAt digitValue valueFrom numeral unprefixed hexadecimal digitsOf digitCount operations firstOperation registers firstRegister registerOf specialOf signed numberOf placed filledParts piecesFrom linePieces rowPieces shapes firstMatch arranged operandsOf arrangedIf isCallRow isPairRow labelRow rowOf nameAt cutAtCalls scopesThat rowsOfScopes instructions labelRows total holder withoutLastEmpty labelsAfterHead listedLabels hostsFrom isIn keptFrom firstAbove127 readRows rowsRead sortedOf tabled hostsOf programWords grouped linesOfGroups joined general memory canonicalBy canonicalFrom firstMisplaced encodedRows assembled numberedLines printing completeOf firstUnreadable memoryBuilt builtWith onNumber onOperation onFirst allDecoded opened
-cases-hold = (refl, (refl, (refl, (refl, (refl, (refl, (refl, (refl, (refl, (refl, (refl, (refl, (refl, (refl, (refl, (refl, (refl, (refl, (refl, (tt))))))))))))))))))))
+cases-hold = (refl, (refl, (refl, (refl, (refl, (refl, (refl, (refl, (refl, (refl, (reading _ _ refl, (reading _ _ refl, (reading _ _ refl, (refl, (refl, (refl, (refl, (refl, (refl, (tt))))))))))))))))))))

@@ -1,7 +1,7 @@
 -- Facts about the operations: their places in the order, the tables by that order, their bits, and the search for the highest bit.
 use mathlib.Core.Path.{_≡_, refl, sym, ap, _∙_}
-use mathlib.Core.Bool.{Bool, true, false}
-use mathlib.Core.List.{List, map}
+use mathlib.Core.Bool.{Bool, true, false, cond}
+use mathlib.Core.List.{List, [], _∷_, map}
 use Prim.Native.Nat.{ℕ, _+_, _*_, _/_, _%_, _^_, _<_, _≤_}
 use native.Mathlib.Nat.{pow-le-pow-right, mod-eq-of-lt, one-mul}
 use native.Mathlib.Numerals.{add-one}
@@ -128,6 +128,16 @@ agree f g y t o = sym (entry-of g y (map g operations) refl o (indexOf o) refl) 
 -- what a computed table says of all operations holds of each
 pub every-operation : (f : OlaOpcode → Bool) → replicate 27 true ≡ map f operations → (o : OlaOpcode) → f o ≡ true
 every-operation f t o = sym (entry-of f false (replicate 27 true) t o (indexOf o) refl) ∙ getD-replicate 27 (indexOf o) true false (index-lt o)
+
+-- the first operation that passes a test passes it
+pub first-holds : (f : OlaOpcode → Bool) (os : List OlaOpcode) (o : OlaOpcode) → firstOperation f os ≡ Is o → f o ≡ true
+unfolding firstOperation
+first-holds f [] o h = cc
+first-holds f (x ∷ os) o h = go (f x) refl (first-holds f os o) h
+  where
+    go : (t : Bool) → f x ≡ t → (firstOperation f os ≡ Is o → f o ≡ true) → cond t (Is x) (firstOperation f os) ≡ Is o → f o ≡ true
+    go true e r h = cc
+    go false e r h = r h
 
 -- the search for the first operation that passes a test, at place i of a list
 module _ (f : OlaOpcode → Bool) (x : OpcodeFound) (l : List OlaOpcode) (i : ℕ) (e : x ≡ firstOperation f (drop i l)) where
