@@ -16,7 +16,7 @@ use Rattle.program.specs.Bytecode.{linesOfGroups, wordLines, bytecodeOf}
 use Rattle.program.specs.declared.BinaryInstruction.{BinaryInstruction}
 use Rattle.decoder.specs.Lines.{lineGroups, completeOf, linesIn, firstUnreadable}
 use Rattle.decoder.specs.AsRead.{asRead}
-use Rattle.decoder.specs.Open.{allDecoded, opened, Read, firstRead, next, instructionRead, lineAfter, run}
+use Rattle.decoder.specs.Open.{maxBytecodeBytes, allDecoded, opened, Read, firstRead, next, instructionRead, lineAfter, run}
 use Rattle.decoder.proofs.LineLaws.{lines-bytecode}
 use Rattle.decoder.proofs.GroupLaws.{lineGroupOf, Readable, groups-lines, group-complete, group-readable, group-decoded, lines-in, lines-behind, lines-left}
 
@@ -40,12 +40,12 @@ unfolding allDecoded _>>=_
 all-decoded k [] c = refl
 all-decoded k (i ∷ is) (one-more r c) = rw (group-decoded i r k, all-decoded (suc k) is c)
 
-opened-groups : (text : List ℕ) (gs : List (Group (List ℕ))) → length text ≤ 524288 → lineGroups (lines text) ≡ gs → firstUnreadable 0 gs ≡ none
+opened-groups : (text : List ℕ) (gs : List (Group (List ℕ))) → length text ≤ maxBytecodeBytes → lineGroups (lines text) ≡ gs → firstUnreadable 0 gs ≡ none
     → completeOf gs ≡ gs → opened text ≡ allDecoded 0 gs
 unfolding opened _>>_ refuseIf refuseAt
-opened-groups text gs h e u d = rw (le-ltb 524288 (length text) h, e, u, d)
+opened-groups text gs h e u d = rw (le-ltb maxBytecodeBytes (length text) h, e, u, d)
 
-module _ (is : List BinaryInstruction) (c : All Readable is) (h : length (bytecodeOf (programWords is)) ≤ 524288) where
+module _ (is : List BinaryInstruction) (c : All Readable is) (h : length (bytecodeOf (programWords is)) ≤ maxBytecodeBytes) where
   -- Opening the bytecode of a program reads the program.
   pub opens : opened (bytecodeOf (programWords is)) ≡ ok (map asRead is)
   opens =
@@ -54,10 +54,10 @@ module _ (is : List BinaryInstruction) (c : All Readable is) (h : length (byteco
       ∙ all-decoded 0 is c
 
 -- ---- one call
-module _ (text : List ℕ) (h : length text ≤ 524288) (line : ℕ) where
+module _ (text : List ℕ) (h : length text ≤ maxBytecodeBytes) (line : ℕ) where
   next-groups : (gs : List (Group (List ℕ))) → lineGroups (drop line (lines text)) ≡ gs → next text line ≡ firstRead line gs
   unfolding next _>>_ refuseIf
-  next-groups gs e = rw (le-ltb 524288 (length text) h, e)
+  next-groups gs e = rw (le-ltb maxBytecodeBytes (length text) h, e)
 
   next-none : drop line (lines text) ≡ [] → next text line ≡ refused 20 0
   unfolding firstRead grouped
@@ -92,7 +92,7 @@ run-step : (k : ℕ) (text : List ℕ) (line : ℕ) (answer : Answer Read) → n
 unfolding run
 run-step k text line answer e = rw e
 
-module _ (text : List ℕ) (h : length text ≤ 524288) where
+module _ (text : List ℕ) (h : length text ≤ maxBytecodeBytes) where
   -- once nothing is left, every call says so, at the same line
   run-none : (k line : ℕ) → drop line (lines text) ≡ [] → run k text line ≡ replicate k (refused 20 0)
   unfolding run
@@ -116,7 +116,7 @@ all-drop P zero xs c = c
 all-drop P (suc n) [] c = none-left
 all-drop P (suc n) (x ∷ xs) (one-more h c) = all-drop P n xs c
 
-module _ (is : List BinaryInstruction) (c : All Readable is) (h : length (bytecodeOf (programWords is)) ≤ 524288) where
+module _ (is : List BinaryInstruction) (c : All Readable is) (h : length (bytecodeOf (programWords is)) ≤ maxBytecodeBytes) where
   -- With the first n instructions read, k calls read the next k of the others, and then say that none is left.
   pub runs-after : (n k : ℕ)
       → run k (bytecodeOf (programWords is)) (length (programWords (take n is)))
