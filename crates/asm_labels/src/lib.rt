@@ -27,7 +27,7 @@ fn is_call_row(piece: &[u8]) -> bool
     if text::same_bytes(&piece[k..], &COLON) {
         return true;
     }
-    if piece[k] != 46 {
+    if piece[k] != b'.' {
         return false;
     }
     let rest = &piece[k + 1..];
@@ -47,13 +47,13 @@ fn is_pair_row(letters: &[u8], piece: &[u8]) -> bool
     if last < n + 2 {
         return false;
     }
-    if piece[0] != 46 {
+    if piece[0] != b'.' {
         return false;
     }
     if !text::same_bytes(&piece[1..n + 1], letters) {
         return false;
     }
-    if piece[last - 1] != 58 {
+    if piece[last - 1] != b':' {
         return false;
     }
     asm_shapes::is_pair(&piece[n + 1..last - 1])

@@ -25,10 +25,10 @@ fn anchor(piece: &[u8]) -> RegisterFound
     if piece.len() == 0 {
         return RegisterFound::Nothing;
     }
-    if piece[0] != 91 {
+    if piece[0] != b'[' {
         return RegisterFound::Nothing;
     }
-    if piece[piece.len() - 1] != 93 {
+    if piece[piece.len() - 1] != b']' {
         return RegisterFound::Nothing;
     }
     asm_shapes::register_at(piece, 1)
@@ -38,7 +38,7 @@ fn anchor(piece: &[u8]) -> RegisterFound
 fn second(piece: &[u8]) -> RegisterFound
     ensures { λ r. ⌜ r ≡ secondOf (now (piece .entry)) ⌝ }
 {
-    if !asm_shapes::byte_is(piece, 3, 44) {
+    if !asm_shapes::byte_is(piece, 3, b',') {
         return RegisterFound::Nothing;
     }
     asm_shapes::register_at(piece, 4)
@@ -56,7 +56,7 @@ fn try_factored(piece: &[u8]) -> Tried
     let RegisterFound::Is(b) = other else {
         return Tried::Other;
     };
-    if !asm_shapes::byte_is(piece, 6, 44) {
+    if !asm_shapes::byte_is(piece, 6, b',') {
         return Tried::Other;
     }
     match asm_shapes::source_number(&piece[7..piece.len() - 1]) {
@@ -118,7 +118,7 @@ fn try_offset(piece: &[u8]) -> Tried
     let RegisterFound::Is(a) = first else {
         return Tried::Other;
     };
-    if !asm_shapes::byte_is(piece, 3, 44) {
+    if !asm_shapes::byte_is(piece, 3, b',') {
         return Tried::Other;
     }
     match asm_shapes::source_number(&piece[4..piece.len() - 1]) {

@@ -164,8 +164,8 @@ pub fn row_at(source: &[u8], at: usize) -> RowAt
             next: at,
         };
     }
-    let feed = at + ByteClass::IsNot(10).scan(&source[at..]);
-    let end = at + ByteClass::IsNot(59).scan(&source[at..feed]);
+    let feed = at + ByteClass::IsNot(b'\n').scan(&source[at..]);
+    let end = at + ByteClass::IsNot(b';').scan(&source[at..feed]);
     let read = line_read(&source[..end], at);
     if feed == source.len() {
         return RowAt { read, next: feed };

@@ -47,7 +47,7 @@ pub fn is_pair(text: &[u8]) -> bool
     if k == text.len() {
         return false;
     }
-    if text[k] != 95 {
+    if text[k] != b'_' {
         return false;
     }
     is_digits(&text[k + 1..])
@@ -57,7 +57,7 @@ pub fn is_pair(text: &[u8]) -> bool
 pub fn is_name(text: &[u8]) -> bool
     ensures { λ r. ⌜ r ≡ isName (now (text .entry)) ⌝ }
 {
-    let k = ByteClass::Is(95).scan(text);
+    let k = ByteClass::Is(b'_').scan(text);
     if k == text.len() {
         return false;
     }
@@ -91,10 +91,10 @@ fn is_source_number(text: &[u8]) -> bool
         return false;
     }
     let sign = text[0];
-    if sign == 45 {
+    if sign == b'-' {
         return is_digits(&text[1..]);
     }
-    if sign == 43 {
+    if sign == b'+' {
         return is_digits(&text[1..]);
     }
     is_digits(text)

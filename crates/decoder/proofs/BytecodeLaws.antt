@@ -14,7 +14,7 @@ use Rattle.program.specs.Bytecode.{bytecodeOf}
 use Rattle.program.specs.declared.BinaryInstruction.{BinaryInstruction}
 use Rattle.decoder.specs.Lines.{lineGroups, completeOf, linesIn, firstUnreadable}
 use Rattle.decoder.specs.AsRead.{asRead}
-use Rattle.decoder.specs.Open.{allDecoded, opened}
+use Rattle.decoder.specs.Open.{maxBytecodeBytes, allDecoded, opened}
 use Rattle.decoder.proofs.LineLaws.{lines-bytecode}
 use Rattle.decoder.proofs.GroupLaws.{lineGroupOf, Readable, groups-lines, group-complete, group-readable, group-decoded}
 
@@ -36,12 +36,12 @@ unfolding allDecoded _>>=_
 all-decoded k [] c = refl
 all-decoded k (i ∷ is) (one-more r c) = rw (group-decoded i r k, all-decoded (suc k) is c)
 
-opened-groups : (text : List ℕ) (gs : List (Group (List ℕ))) → length text ≤ 524288 → lineGroups (lines text) ≡ gs → firstUnreadable 0 gs ≡ none
+opened-groups : (text : List ℕ) (gs : List (Group (List ℕ))) → length text ≤ maxBytecodeBytes → lineGroups (lines text) ≡ gs → firstUnreadable 0 gs ≡ none
     → completeOf gs ≡ gs → opened text ≡ allDecoded 0 gs
 unfolding opened _>>_ refuseIf refuseAt
-opened-groups text gs h e u d = rw (le-ltb 524288 (length text) h, e, u, d)
+opened-groups text gs h e u d = rw (le-ltb maxBytecodeBytes (length text) h, e, u, d)
 
-module _ (is : List BinaryInstruction) (c : All Readable is) (h : length (bytecodeOf (programWords is)) ≤ 524288) where
+module _ (is : List BinaryInstruction) (c : All Readable is) (h : length (bytecodeOf (programWords is)) ≤ maxBytecodeBytes) where
   -- Opening the bytecode of a program reads the program.
   pub opens : opened (bytecodeOf (programWords is)) ≡ ok (map asRead is)
   opens =

@@ -19,7 +19,7 @@ use Rattle.program.specs.Groups.{Group, grouped}
 use Rattle.program.specs.declared.BinaryInstruction.{BinaryInstruction}
 use Rattle.decoder.specs.Lines.{lineHasSecond, lineGroups, isComplete, isHere, linesIn}
 use Rattle.decoder.specs.Decode.{groupDecoded}
-use Rattle.decoder.specs.Open.{Read, firstRead, next, instructionRead, lineAfter, run}
+use Rattle.decoder.specs.Open.{maxBytecodeBytes, Read, firstRead, next, instructionRead, lineAfter, run}
 use Rattle.decoder.specs.Steps.{linesEnd, ReadAt, nextAt, instructionAt, linesAt, offsetAfter, runAt, nthCall}
 
 -- ---- where lines end
@@ -166,7 +166,7 @@ module _ (offset : ℕ) (rest : List ℕ) where
 
 -- a text within 524,288 bytes, or longer
 module _ (text : List ℕ) where
-  module _ (h : ltb 524288 (length text) ≡ false) where
+  module _ (h : ltb maxBytecodeBytes (length text) ≡ false) where
     pub short-next : (line : ℕ) → next text line ≡ firstRead line (lineGroups (drop line (lines text)))
     unfolding next _>>_ refuseIf
     short-next line = rw h
@@ -175,10 +175,10 @@ module _ (text : List ℕ) where
     unfolding nextAt next _>>_ refuseIf
     short-at offset =
         let k = length-drop offset text in
-        let b : length text ≤ 524288 = ltb-false _ _ h in
-        rw (h, le-ltb 524288 (length (drop offset text)) (omega arith))
+        let b : length text ≤ maxBytecodeBytes = ltb-false _ _ h in
+        rw (h, le-ltb maxBytecodeBytes (length (drop offset text)) (omega arith))
 
-  module _ (h : ltb 524288 (length text) ≡ true) where
+  module _ (h : ltb maxBytecodeBytes (length text) ≡ true) where
     long-next : (line : ℕ) → next text line ≡ refused 14 0
     unfolding next _>>_ refuseIf
     long-next line = rw h
@@ -188,17 +188,17 @@ module _ (text : List ℕ) where
     long-at offset = rw h
 
   placed : (offset : ℕ) → Placed offset (drop offset text) (lineGroups (lines (drop offset text))) (nextAt text offset)
-  placed offset = go (ltb 524288 (length text)) refl
+  placed offset = go (ltb maxBytecodeBytes (length text)) refl
     where
-      go : (t : Bool) → ltb 524288 (length text) ≡ t → Placed offset (drop offset text) (lineGroups (lines (drop offset text))) (nextAt text offset)
+      go : (t : Bool) → ltb maxBytecodeBytes (length text) ≡ t → Placed offset (drop offset text) (lineGroups (lines (drop offset text))) (nextAt text offset)
       go true e = rw (long-at e offset) tt
       go false e = rw (short-at e offset) (placed-groups offset (drop offset text) (lineGroups (lines (drop offset text))))
 
   -- What next reads from a line is what is read at the offset where the line starts, and the line reached is as many lines on.
   pub next-by-offset : (line : ℕ) → next text line ≡ byLine line (nextAt text (linesEnd line text))
-  next-by-offset line = go (ltb 524288 (length text)) refl
+  next-by-offset line = go (ltb maxBytecodeBytes (length text)) refl
     where
-      go : (t : Bool) → ltb 524288 (length text) ≡ t → next text line ≡ byLine line (nextAt text (linesEnd line text))
+      go : (t : Bool) → ltb maxBytecodeBytes (length text) ≡ t → next text line ≡ byLine line (nextAt text (linesEnd line text))
       go true e = long-next e line ∙ sym (ap (byLine line) (long-at e (linesEnd line text)))
       go false e =
           short-next e line

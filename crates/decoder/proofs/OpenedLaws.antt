@@ -18,7 +18,7 @@ use Rattle.program.proofs.CanonicalForm.{CanonicalForm, InOrder}
 use Rattle.decoder.specs.Lines.{lineHasSecond, lineGroups, isComplete, completeOf, linesIn}
 use Rattle.decoder.specs.Decode.{groupDecoded}
 use Rattle.decoder.specs.AsRead.{asCanonical}
-use Rattle.decoder.specs.Open.{allDecoded, opened, Read, firstRead, next, instructionRead, lineAfter, run}
+use Rattle.decoder.specs.Open.{maxBytecodeBytes, allDecoded, opened, Read, firstRead, next, instructionRead, lineAfter, run}
 use Rattle.decoder.proofs.GroupLaws.{grouped-one, grouped-two}
 use Rattle.decoder.proofs.OffsetLaws.{short-next}
 use Rattle.decoder.proofs.DecodeLaws.{group-outcome, WasRead, outcome-read}
@@ -47,7 +47,7 @@ all-read (g ∷ gs) j is e = go (isComplete g) refl (all-read gs) e
 
 -- what opening passed, and what it read
 opened-read : (text : List ℕ) (is : List BinaryInstruction) → opened text ≡ ok is
-    → (ltb 524288 (length text) ≡ false) × AllRead (completeOf (lineGroups (lines text))) is
+    → (ltb maxBytecodeBytes (length text) ≡ false) × AllRead (completeOf (lineGroups (lines text))) is
 unfolding opened
 opened-read text is e =
     let a = if-passed _ _ _ is e in
@@ -98,7 +98,7 @@ run-step : (k : ℕ) (text : List ℕ) (line : ℕ) (answer : Answer Read) → n
 unfolding run
 run-step k text line answer e = rw e
 
-module _ (text : List ℕ) (h : ltb 524288 (length text) ≡ false) where
+module _ (text : List ℕ) (h : ltb maxBytecodeBytes (length text) ≡ false) where
   abbrev groupsLeft : ℕ → List (Group (List ℕ))
   groupsLeft line = lineGroups (drop line (lines text))
 

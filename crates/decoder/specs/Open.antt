@@ -46,10 +46,14 @@ unfoldable pub allDecoded : ℕ → List (Group (List ℕ)) → Answer (List Bin
 allDecoded k [] = ok []
 allDecoded k (g ∷ gs) = groupDecoded k g >>= λ i. allDecoded (suc k) gs >>= λ is. ok (i ∷ is)
 
+-- 14: "above 524,288 bytes"
+abbrev pub maxBytecodeBytes : ℕ
+maxBytecodeBytes = 524288
+
 -- "Opening bytecode: 14 above 524,288 bytes; 15 ..., tested over the whole text; then by instruction (its index) 16 ... 17 ... 18 ... 19"
 unfoldable pub opened : List ℕ → Answer (List BinaryInstruction)
 opened text = do
-  refuseIf (ltb 524288 (length text)) 14
+  refuseIf (ltb maxBytecodeBytes (length text)) 14
   refuseAt (firstUnreadable 0 (lineGroups (lines text))) 15
   allDecoded 0 (completeOf (lineGroups (lines text)))
 
@@ -67,7 +71,7 @@ firstRead line (g ∷ gs) =
 -- "Next instruction: 14, and 15 to 19 for the lines read only, with index 0": "the next instruction is read as if the text began there"
 unfoldable pub next : List ℕ → ℕ → Answer Read
 next text line = do
-  refuseIf (ltb 524288 (length text)) 14
+  refuseIf (ltb maxBytecodeBytes (length text)) 14
   firstRead line (lineGroups (drop line (lines text)))
 
 -- "The reader does not move on a refusal"

@@ -6,7 +6,7 @@ use lib.ListN.{length, drop, getD}
 use Rattle.text.specs.Lines.{lineNext}
 use Rattle.text.specs.Answer.{Answer, ok, refused, _>>=_, _>>_, refuseIf}
 use Rattle.program.specs.declared.BinaryInstruction.{BinaryInstruction}
-use Rattle.decoder.specs.Open.{openNumber, openDetail, nextNumber, nextDetail, next, instructionRead, lineAfter, run}
+use Rattle.decoder.specs.Open.{openNumber, openDetail, maxBytecodeBytes, nextNumber, nextDetail, next, instructionRead, lineAfter, run}
 use Rattle.decoder.specs.declared.Opening.{Opening}
 use Rattle.decoder.specs.declared.Opening.the-variants.{Accepted, Refused as OpenRefused}
 use Rattle.decoder.specs.declared.Found.{Found}
@@ -60,7 +60,7 @@ pub record ReadAt : Type 0 where
 -- the instruction whose first line begins at that byte, "as if the text began there"; 14 is about the whole text
 unfoldable pub nextAt : List ℕ → ℕ → Answer ReadAt
 nextAt text offset = do
-  refuseIf (ltb 524288 (length text)) 14
+  refuseIf (ltb maxBytecodeBytes (length text)) 14
   r ← next (drop offset text) 0
   ok (record { instruction = r .instruction; lines = r .line; offset = offset + linesEnd (r .line) (drop offset text) })
 

@@ -1,9 +1,12 @@
 // Bytecode read back into instructions: core/src/program/decoder.rs.
 use program::BinaryInstruction;
 
+// The most bytes that a bytecode may have.
+pub const MAX_BYTECODE_BYTES: usize = 524_288;
+
 // Why a bytecode is not opened.
 pub enum OpenRefusal {
-    // 14: above 524,288 bytes.
+    // 14: above MAX_BYTECODE_BYTES.
     TextTooLong,
     // 15: a first word that is no 64-bit hexadecimal number, with the line's index.
     FirstWordUnreadable(usize),

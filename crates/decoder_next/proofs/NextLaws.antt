@@ -13,7 +13,7 @@ use Rattle.program.specs.Groups.{Group}
 use Rattle.program.specs.declared.BinaryInstruction.{BinaryInstruction}
 use Rattle.decoder.specs.Lines.{lineGroups, isComplete, linesIn}
 use Rattle.decoder.specs.Decode.{groupDecoded}
-use Rattle.decoder.specs.Open.{openNumber, openDetail, firstRead}
+use Rattle.decoder.specs.Open.{maxBytecodeBytes, openNumber, openDetail, firstRead}
 use Rattle.decoder.specs.Steps.{linesEnd, nextAt, steppedAt}
 use Rattle.decoder.specs.declared.OpenRefusal.{OpenRefusal}
 use Rattle.decoder.proofs.OffsetLaws.{atOffset, short-at, long-at}
@@ -34,13 +34,13 @@ first-groups offset rest (g ∷ gs) = go (isComplete g) (groupDecoded 0 g)
     go true (refused n d) = refl
     go false a = refl
 
-pub at-long : (text : List ℕ) (offset : ℕ) → 524288 < length text → record { answer = refused 14 0; lines = 0; offset = offset } ≡ steppedAt text offset
-at-long text offset h = rw (long-at text (lt-ltb 524288 (length text) h) offset)
+pub at-long : (text : List ℕ) (offset : ℕ) → maxBytecodeBytes < length text → record { answer = refused 14 0; lines = 0; offset = offset } ≡ steppedAt text offset
+at-long text offset h = rw (long-at text (lt-ltb maxBytecodeBytes (length text) h) offset)
 
-module _ (text : List ℕ) (offset : ℕ) (h : length text ≤ 524288) (r : InstructionAt) (e : atNumbered r ≡ readFrom 0 text offset) where
+module _ (text : List ℕ) (offset : ℕ) (h : length text ≤ maxBytecodeBytes) (r : InstructionAt) (e : atNumbered r ≡ readFrom 0 text offset) where
   at-read : nextAt text offset ≡ atNumbered r
   at-read =
-      short-at text (le-ltb 524288 (length text) h) offset
+      short-at text (le-ltb maxBytecodeBytes (length text) h) offset
       ∙ first-groups offset (drop offset text) (lineGroups (lines (drop offset text)))
       ∙ sym e
 

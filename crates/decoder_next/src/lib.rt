@@ -12,7 +12,7 @@ ghost use Rattle.decoder.specs.Steps.{stepNumbered, steppedAt};
 pub fn next_at(text: &[u8], offset: usize) -> StepAt
     ensures { λ r. ⌜ stepNumbered r ≡ steppedAt (now (text .entry)) offset ⌝ }
 {
-    if 524288 < text.len() {
+    if decoder::MAX_BYTECODE_BYTES < text.len() {
         let found = Found::Refused(NextRefusal::Open(OpenRefusal::TextTooLong));
         return StepAt {
             found,

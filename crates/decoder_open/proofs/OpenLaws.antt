@@ -10,7 +10,7 @@ use Rattle.text.specs.Lines.{lines}
 use Rattle.text.specs.Answer.{Answer, refused, _>>_, refuseIf, refuseAt}
 use Rattle.program.specs.declared.BinaryInstruction.{BinaryInstruction}
 use Rattle.decoder.specs.Lines.{lineGroups, completeOf, firstUnreadable}
-use Rattle.decoder.specs.Open.{openNumber, openDetail, allDecoded, opened}
+use Rattle.decoder.specs.Open.{maxBytecodeBytes, openNumber, openDetail, allDecoded, opened}
 use Rattle.decoder.specs.Steps.{acceptedOf}
 use Rattle.decoder.specs.declared.OpenRefusal.{OpenRefusal}
 use Rattle.decoder_open.specs.Unreadable.{lineOption, lineFirst}
@@ -37,14 +37,14 @@ pub ruleset from-laws = (from-unreadable, from-pending, needs)
 -- ---- the whole text
 module _ (text : List ℕ) where
   -- 14
-  pub open-long : 524288 < length text → refused 14 0 ≡ acceptedOf (opened text)
+  pub open-long : maxBytecodeBytes < length text → refused 14 0 ≡ acceptedOf (opened text)
   unfolding opened _>>_ refuseIf
-  open-long h = rw (lt-ltb 524288 (length text) h)
+  open-long h = rw (lt-ltb maxBytecodeBytes (length text) h)
 
   -- the others
-  pub open-short : length text ≤ 524288 → (a : Answer (Unit {0})) → a ≡ whole text → a ≡ acceptedOf (opened text)
+  pub open-short : length text ≤ maxBytecodeBytes → (a : Answer (Unit {0})) → a ≡ whole text → a ≡ acceptedOf (opened text)
   unfolding opened _>>_ refuseIf refuseAt
-  open-short h a p = p ∙ sym (rw (le-ltb 524288 (length text) h) (go (firstUnreadable 0 (lineGroups (lines text))) (allDecoded 0 (completeOf (lineGroups (lines text))))))
+  open-short h a p = p ∙ sym (rw (le-ltb maxBytecodeBytes (length text) h) (go (firstUnreadable 0 (lineGroups (lines text))) (allDecoded 0 (completeOf (lineGroups (lines text))))))
     where
       go : (o : Option ℕ) (d : Answer (List BinaryInstruction)) → acceptedOf (refuseAt o 15 >> d) ≡ lineFirst o (acceptedOf d)
       go (some k) d = refl

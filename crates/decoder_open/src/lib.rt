@@ -90,7 +90,7 @@ fn open_all(text: &[u8]) -> Opening
 pub fn open_text(text: &[u8]) -> Opening
     ensures { λ r. ⌜ openNumbered r ≡ acceptedOf (opened (now (text .entry))) ⌝ }
 {
-    if 524288 < text.len() {
+    if decoder::MAX_BYTECODE_BYTES < text.len() {
         return Opening::Refused(OpenRefusal::TextTooLong);
     }
     open_all(text)

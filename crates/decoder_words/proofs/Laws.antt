@@ -13,13 +13,12 @@ use Rattle.text.specs.Answer.{Answer, ok, refused}
 use Rattle.text_read.specs.Numerals.{hexadecimal}
 use Rattle.text_read.specs.declared.Numeral.{Numeral}
 use Rattle.text_read.specs.declared.Numeral.the-variants.{Value, Nothing as NoNumeral}
-use Rattle.vm_opcodes.specs.Operations.{operationBit, operationIn, bit}
+use Rattle.vm_opcodes.specs.Operations.{operationIn, bit}
 use Rattle.vm_opcodes.specs.declared.OlaOpcode.{OlaOpcode}
 use Rattle.vm_opcodes.specs.declared.OpcodeFound.{OpcodeFound}
 use Rattle.vm_opcodes.specs.declared.OpcodeFound.the-variants.{Is as IsOpcode, Nothing as NoOpcode}
 use Rattle.vm_hardware.specs.Registers.{registerIn}
 use Rattle.vm_hardware.specs.declared.OlaRegister.{OlaRegister}
-use Rattle.vm_hardware.specs.declared.OlaSpecialRegister.the-variants.{PSP}
 use Rattle.vm_hardware.specs.declared.Place.the-variants.{Op0, Op1, Dst}
 use Rattle.vm_hardware.specs.declared.RegisterFound.{RegisterFound}
 use Rattle.vm_hardware.specs.declared.RegisterFound.the-variants.{Is as IsRegister, Nothing as NoRegister}
@@ -28,8 +27,8 @@ use Rattle.vm_operands.specs.declared.ImmediateValue.{ImmediateValue}
 use Rattle.vm_operands.specs.declared.ImmediateFound.{ImmediateFound}
 use Rattle.vm_operands.specs.declared.ImmediateFound.the-variants.{Is as IsNumber, Nothing as NoNumber}
 use Rattle.vm_operands.specs.declared.OlaOperand.{OlaOperand}
-use Rattle.vm_operands.specs.declared.OlaOperand.the-variants.{Empty, ImmediateOperand, RegisterOperand, RegisterWithFactor, SpecialReg}
-use Rattle.program.specs.Instructions.{made, isMemory}
+use Rattle.vm_operands.specs.declared.OlaOperand.the-variants.{Empty, ImmediateOperand, RegisterOperand, RegisterWithFactor}
+use Rattle.program.specs.Instructions.{made, isMemory, isMov}
 use Rattle.program.specs.declared.BinaryInstruction.{BinaryInstruction}
 use Rattle.decoder.specs.Lines.{hasPrefix, secondOfLine}
 use Rattle.decoder.specs.Decode.{registerOr, missingOp1, memoryBuilt, builtWith, twoDue, onNumber, onOperation, decoded}
@@ -71,22 +70,9 @@ pub ruleset second-laws = (second-short, second-no-zero, second-no-x, second-num
 -- ---- tests and places
 
 module _ (o : OlaOpcode) where
-  module _ (n : ℕ) (e : n ≡ operationBit o) where
-    -- mload's bit
-    pub memory-load : n ≡ 22 → true ≡ isMemory o
-    memory-load h = rw (← e, h)
-
-    -- mstore's bit or another
-    pub memory-store : (n ≡ 22 → ⊥) → eqb n 21 ≡ isMemory o
-    memory-store h = rw (← e, ne-eqb _ _ h)
-
-    -- mov's bit
-    pub missing-mov : n ≡ 27 → SpecialReg PSP ≡ missingOp1 o
-    missing-mov h = rw (← e, h)
-
-    -- another
-    pub missing-other : (n ≡ 27 → ⊥) → Empty ≡ missingOp1 o
-    missing-other h = rw (← e, ne-eqb _ _ h)
+  -- another operation than mov
+  pub missing-other : false ≡ isMov o → Empty ≡ missingOp1 o
+  missing-other e = rw (← e)
 
   module _ (w : ℕ) where
     -- bit 62
@@ -97,7 +83,7 @@ module _ (o : OlaOpcode) where
     pub due-memory : (b : Bool) → (w / 2 ^ 62 % 2 ≡ 1 → ⊥) → b ≡ isMemory o → b ≡ twoDue o w
     due-memory b h e = rw (ne-eqb _ _ h) e
 
-pub ruleset bit-laws = (memory-load, memory-store, missing-mov, missing-other, due-bit, due-memory, needs)
+pub ruleset due-laws = (due-bit, due-memory, needs)
 
 -- a register found
 pub register-told : (x : OlaOperand) (f : RegisterFound) (r : OlaRegister) → f ≡ IsRegister r → RegisterOperand r ≡ registerOr x f

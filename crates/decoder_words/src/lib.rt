@@ -30,13 +30,13 @@ pub fn second_number(line: &[u8]) -> ImmediateFound
     if line.len() < 2 {
         return ImmediateValue::from_str(line);
     }
-    if line[0] != 48 {
+    if line[0] != b'0' {
         return ImmediateValue::from_str(line);
     }
-    if line[1] != 120 {
+    if line[1] != b'x' {
         return ImmediateValue::from_str(line);
     }
-    match text_read::read_hexadecimal(line, 0xFFFF_FFFF_0000_0000) {
+    match text_read::read_hexadecimal(line, ImmediateValue::LARGEST) {
         Numeral::Value(v) => ImmediateFound::Is(ImmediateValue::new(v)),
         Numeral::Nothing => ImmediateFound::Nothing,
     }
@@ -46,18 +46,17 @@ pub fn second_number(line: &[u8]) -> ImmediateFound
 fn is_memory(opcode: OlaOpcode) -> bool
     ensures { λ r. ⌜ r ≡ isMemory opcode ⌝ }
 {
-    let shift = vm_tables::binary_bit_shift(opcode);
-    if shift == 22 {
-        return true;
+    match opcode {
+        OlaOpcode::MLOAD | OlaOpcode::MSTORE => true,
+        _ => false,
     }
-    shift == 21
 }
 
 // Whether two lines are due: bit 62 with any operation, and mload and mstore.
 fn two_due(opcode: OlaOpcode, word: u64) -> bool
     ensures { λ r. ⌜ r ≡ twoDue opcode word ⌝ }
 {
-    if (word >> 62) % 2 == 1 {
+    if (word >> BinaryInstruction::BIT_SHIFT_OP1_IMM) % 2 == 1 {
         return true;
     }
     is_memory(opcode)
@@ -77,12 +76,12 @@ fn register_or(other: OlaOperand, found: RegisterFound) -> OlaOperand
 fn missing_op1(opcode: OlaOpcode) -> OlaOperand
     ensures { λ r. ⌜ r ≡ missingOp1 opcode ⌝ }
 {
-    if vm_tables::binary_bit_shift(opcode) == 27 {
-        return OlaOperand::SpecialReg {
+    match opcode {
+        OlaOpcode::MOV => OlaOperand::SpecialReg {
             special_reg: OlaSpecialRegister::PSP,
-        };
+        },
+        _ => OlaOperand::Empty,
     }
-    OlaOperand::Empty
 }
 
 // mload or mstore with its second line's number: 19 where a register is missing.
@@ -133,7 +132,7 @@ fn built_with(index: usize, opcode: OlaOpcode, word: u64, value: ImmediateValue)
     let op0 = vm_hardware::lowest_register(word, Place::Op0);
     if is_memory(opcode) {
         let op1 = vm_hardware::lowest_register(word, Place::Op1);
-        let numbered = (word >> 62) % 2 == 1;
+        let numbered = (word >> BinaryInstruction::BIT_SHIFT_OP1_IMM) % 2 == 1;
         return memory_built(index, opcode, value, numbered, dst, op0, op1);
     }
     Decoded::Is(BinaryInstruction::new(

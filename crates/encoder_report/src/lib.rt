@@ -54,9 +54,9 @@ fn write_row(text: &mut [u8], at: usize, position: usize, number: bool, word: u6
     ensures { λ r. ⌜ (r ≡ at + length (rowText position number word)) × (now (text .exit) ≡ sets (now (text .entry)) at (rowText position number word)) ⌝ }
 {
     let space = write_decimal(text, at, position as u64);
-    text[space] = 32;
+    text[space] = b' ';
     let feed = write_line(text, space + 1, number, word);
-    text[feed] = 10;
+    text[feed] = b'\n';
     feed + 1
 }
 
@@ -66,9 +66,9 @@ fn write_pair(text: &mut [u8], at: usize, number: u64, detail: u64) -> usize
     ensures { λ r. ⌜ (r ≡ at + length (twoFields (decimalText number) (decimalText detail))) × (now (text .exit) ≡ sets (now (text .entry)) at (twoFields (decimalText number) (decimalText detail))) ⌝ }
 {
     let space = write_decimal(text, at, number);
-    text[space] = 32;
+    text[space] = b' ';
     let feed = write_decimal(text, space + 1, detail);
-    text[feed] = 10;
+    text[feed] = b'\n';
     feed + 1
 }
 

@@ -1,4 +1,5 @@
 // The bytecode text of words: what `from_instructions` of core/src/program/binary_program.rs joins.
+use program::BinaryInstruction;
 use program::WriteRefusal;
 use text_write::Put;
 ghost use mathlib.Core.Path.{_≡_};
@@ -19,17 +20,17 @@ pub enum Written {
     Refused(WriteRefusal),
 }
 
-// Whether the word has bit 62, 22 or 21.
+// Whether the word has the bit of a number in op1, of mload or of mstore: 62, 22 or 21.
 fn has_second(word: u64) -> bool
     ensures { λ r. ⌜ r ≡ hasSecond word ⌝ }
 {
-    if (word >> 62) % 2 == 1 {
+    if (word >> BinaryInstruction::BIT_SHIFT_OP1_IMM) % 2 == 1 {
         return true;
     }
-    if (word >> 22) % 2 == 1 {
+    if (word >> vm_tables::MLOAD_SHIFT) % 2 == 1 {
         return true;
     }
-    (word >> 21) % 2 == 1
+    (word >> vm_tables::MSTORE_SHIFT) % 2 == 1
 }
 
 // Whether the word after this one is a number: not where this one is a number itself.
@@ -115,7 +116,7 @@ fn write_word(text: &mut [u8], at: usize, first: bool, number: bool, word: u64) 
     if first {
         return write_line(text, at, number, word);
     }
-    text[at] = 10;
+    text[at] = b'\n';
     write_line(text, at + 1, number, word)
 }
 

@@ -3,9 +3,8 @@ use Prim.Native.Nat.{ℕ}
 use mathlib.Core.Path.{_≡_, sym, ap, _∙_}
 use mathlib.Core.Bool.{Bool, true, false, not}
 use borrow.Author.Needs.{needs}
-use lib.Dec.{eqb, ltb}
+use lib.Dec.{ltb}
 use Rattle.text.specs.Answer.{_>>_, refuseIf, refuseAt}
-use Rattle.vm_opcodes.specs.Operations.{operationBit}
 use Rattle.vm_opcodes.specs.declared.OlaOpcode.{OlaOpcode}
 use Rattle.vm_hardware.specs.declared.OlaRegister.{OlaRegister}
 use Rattle.vm_hardware.specs.declared.OlaSpecialRegister.{OlaSpecialRegister}
@@ -48,10 +47,6 @@ module _ (x : OlaOperand) where
     rejected-special s b e f = rw (e, f)
 
 pub ruleset large-laws = (large-number, large-offset, large-factor, needs)
-
--- the operation whose bit is 27
-pub told-mov : (o : OlaOpcode) (n : ℕ) → n ≡ operationBit o → eqb n 27 ≡ isMov o
-told-mov o n e = rw e
 
 -- ---- encode: 21, then 22 for op0, op1 and dst, then the words
 module _ (i : BinaryInstruction) (t : Bool) (e : t ≡ hasTooLarge i) where

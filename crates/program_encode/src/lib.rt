@@ -46,11 +46,14 @@ pub fn has_too_large(instruction: BinaryInstruction) -> bool
     is_too_large(dst)
 }
 
-// Whether the operation is mov, the one with bit 27.
+// Whether the operation is mov.
 fn is_mov(opcode: OlaOpcode) -> bool
     ensures { λ r. ⌜ r ≡ isMov opcode ⌝ }
 {
-    vm_tables::binary_bit_shift(opcode) == 27
+    match opcode {
+        OlaOpcode::MOV => true,
+        _ => false,
+    }
 }
 
 // Whether op0 or dst may not have the content.

@@ -144,7 +144,7 @@ fn put_offset(row: &mut [u8], at: usize, register: OlaRegister, offset: Immediat
     ensures { λ r. ⌜ (r ≤ at + 21) × (take r (now (row .exit)) ≡ take at (now (row .entry)) ++ offsetText register (offset .number)) ⌝ }
 {
     let sign = put_register(row, at, register);
-    let number = put_byte(row, sign, 43);
+    let number = put_byte(row, sign, b'+');
     put_number(row, number, offset)
 }
 
@@ -154,7 +154,7 @@ fn put_factor(row: &mut [u8], at: usize, register: OlaRegister, factor: Immediat
     ensures { λ r. ⌜ (r ≤ at + 21) × (take r (now (row .exit)) ≡ take at (now (row .entry)) ++ factorText register (factor .number)) ⌝ }
 {
     let sign = put_number(row, at, factor);
-    let name = put_byte(row, sign, 42);
+    let name = put_byte(row, sign, b'*');
     put_register(row, name, register)
 }
 
@@ -188,7 +188,7 @@ fn put_spaced(row: &mut [u8], at: usize, operand: OlaOperand) -> usize
     requires { ⌜ at + 22 ≤ length (now row) ⌝ }
     ensures { λ r. ⌜ (r ≤ at + 22) × (take r (now (row .exit)) ≡ take at (now (row .entry)) ++ spacedText operand) ⌝ }
 {
-    let start = put_byte(row, at, 32);
+    let start = put_byte(row, at, b' ');
     put_content(row, start, operand)
 }
 
@@ -197,12 +197,12 @@ fn put_memory(row: &mut [u8], at: usize, op0: OlaOperand, op1: OlaOperand) -> us
     requires { ⌜ at + 46 ≤ length (now row) ⌝ }
     ensures { λ r. ⌜ (r ≤ at + 46) × (take r (now (row .exit)) ≡ take at (now (row .entry)) ++ bracketedText op0 op1) ⌝ }
 {
-    let bracket = put_byte(row, at, 32);
-    let anchor = put_byte(row, bracket, 91);
+    let bracket = put_byte(row, at, b' ');
+    let anchor = put_byte(row, bracket, b'[');
     let sign = put_content(row, anchor, op0);
-    let offset = put_byte(row, sign, 43);
+    let offset = put_byte(row, sign, b'+');
     let end = put_content(row, offset, op1);
-    put_byte(row, end, 93)
+    put_byte(row, end, b']')
 }
 
 // Two places, after one space each.

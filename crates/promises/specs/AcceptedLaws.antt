@@ -19,6 +19,7 @@ use Rattle.program.proofs.CanonicalForm.{CanonicalForm, InOrder}
 use Rattle.program.proofs.FormLaws.{total-emitted, words-below}
 use Rattle.encoder.specs.Assemble.{Room, Accepted, assembled}
 use Rattle.encoder.proofs.AcceptedLaws.{AcceptedRows, accepted-rows, canonical-form, in-order}
+use Rattle.decoder.specs.Open.{maxBytecodeBytes}
 use Rattle.decoder.proofs.LineLaws.{bytecode-length}
 use Rattle.decoder.proofs.GroupLaws.{Readable}
 use Rattle.promises.specs.LengthLaws.{words-fit}
@@ -42,7 +43,7 @@ module _ (s prophets : List ℕ) (room : Room) (a : Accepted) (h : assembled s p
   accepted-readable = all-readable (a .program) accepted-form accepted-order
 
   -- the bytecode of an accepted source is never refused by 14
-  pub accepted-short : length (bytecodeOf (programWords (a .program))) ≤ 524288
+  pub accepted-short : length (bytecodeOf (programWords (a .program))) ≤ maxBytecodeBytes
   accepted-short =
       let b = bytecode-length (programWords (a .program)) (words-below (a .program) accepted-form accepted-order) in
       let t = total-emitted (a .program) accepted-form in

@@ -29,6 +29,7 @@ use Rattle.program.specs.declared.BinaryInstruction.{BinaryInstruction}
 use Rattle.encoder.specs.Canonical.{Names, namesOf, plain, general, canonicalBy, canonicalOf, canonicalFrom}
 use Rattle.encoder.specs.Assemble.{Room, Accepted, assembled}
 use Rattle.encoder.proofs.AcceptedLaws.{accepted-rows}
+use Rattle.decoder.specs.Open.{maxBytecodeBytes}
 
 -- ---- the words of an instruction
 
@@ -82,7 +83,7 @@ program-words names k (i ∷ is) bs (one-more e f) h =
     rw (← ok-same (y .2)) (omega arith)
 
 -- nineteen bytes for every word of an accepted source are at most 524,288
-pub words-fit : (s prophets : List ℕ) (room : Room) (a : Accepted) → assembled s prophets room ≡ ok a → 19 * total (map emittedLength (a .program)) ≤ 524288
+pub words-fit : (s prophets : List ℕ) (room : Room) (a : Accepted) → assembled s prophets room ≡ ok a → 19 * total (map emittedLength (a .program)) ≤ maxBytecodeBytes
 words-fit s prophets room a h =
     let r = accepted-rows s prophets room a h in
     let w = program-words (namesOf s (r .rows)) 0 (instructions (r .rows)) (a .program) (sorted-bare s (r .rows) (r .sorted)) (r .canonical) in

@@ -27,7 +27,7 @@ fn line_at(list: &[u8], at: usize) -> Line
             next: at,
         };
     }
-    let length = ByteClass::IsNot(10).scan(&list[at..]);
+    let length = ByteClass::IsNot(b'\n').scan(&list[at..]);
     let end = at + length;
     if end == list.len() {
         return Line { length, next: end };

@@ -8,11 +8,11 @@ ghost use lib.ListN.{length};
 pub(crate) const FAULT: usize = 1000000;
 
 // What parts fields, what parts items, and what parts the two sides of an item.
-pub(crate) const TAB: u8 = 9;
+pub(crate) const TAB: u8 = b'\t';
 
-pub(crate) const SPACE: u8 = 32;
+pub(crate) const SPACE: u8 = b' ';
 
-pub(crate) const EQUALS: u8 = 61;
+pub(crate) const EQUALS: u8 = b'=';
 
 // A byte of a text, how many times it stands there, and where the next one begins, 0 where this one cannot be read.
 struct Step {
@@ -99,7 +99,7 @@ pub(crate) fn count_of(digits: &[u8]) -> usize {
 // A number in decimal digits, or in hexadecimal ones behind `0x`.
 pub(crate) fn read_number(digits: &[u8]) -> Numeral {
     if 2 < digits.len() {
-        if digits[1] == 120 {
+        if digits[1] == b'x' {
             return text_read::read_hexadecimal(digits, 0xFFFF_FFFF_FFFF_FFFF);
         }
     }
@@ -117,7 +117,7 @@ fn one_byte(byte: u8, next: usize) -> Step {
 
 // A byte behind the count that begins here and ends at a semicolon.
 fn read_times(text: &[u8], at: usize) -> Step {
-    let end = mark_place(text, at, 59);
+    let end = mark_place(text, at, b';');
     let times = count_of(part(text, at, end));
     let place = end + 1;
     if text.len() <= place {
@@ -150,7 +150,7 @@ fn read_byte(text: &[u8], at: usize) -> Step {
         return one_byte(0, 0);
     }
     let place = at + 1;
-    if text[at] != 92 {
+    if text[at] != b'\\' {
         return one_byte(text[at], place);
     }
     if text.len() <= place {
@@ -159,10 +159,10 @@ fn read_byte(text: &[u8], at: usize) -> Step {
     let next = place + 1;
     let letter = text[place];
     match letter {
-        b'n' => one_byte(10, next),
-        b'r' => one_byte(13, next),
-        b't' => one_byte(9, next),
-        b'\\' => one_byte(92, next),
+        b'n' => one_byte(b'\n', next),
+        b'r' => one_byte(b'\r', next),
+        b't' => one_byte(b'\t', next),
+        b'\\' => one_byte(b'\\', next),
         b'x' => read_digits(text, next),
         b'*' => read_times(text, next),
         _ => one_byte(0, 0),

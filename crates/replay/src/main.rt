@@ -117,7 +117,7 @@ fn count_at(tally: Tally, place: u64) -> Tally {
 // Runs a line's case, unless it is a comment, and counts it.
 fn run_line(line: &[u8], number: u64, tally: Tally) -> Tally {
     if line.len() != 0 {
-        if line[0] == 35 {
+        if line[0] == b'#' {
             return tally;
         }
     }
@@ -136,7 +136,7 @@ fn run_lines(file: &[u8]) -> Tally {
     let mut at: usize = 0;
     let mut number: u64 = 1;
     while at < file.len() {
-        let end = mark_place(file, at, 10);
+        let end = mark_place(file, at, b'\n');
         if end < at {
             return tally;
         }

@@ -49,7 +49,7 @@ fn step_from(text: &[u8], line: usize) -> OlaStep {
 // otherwise.
 fn put_step(answer: Answer, step: OlaStep, due: u64) -> Answer {
     if step.refusal != due {
-        return put_byte(answer, 33);
+        return put_byte(answer, b'!');
     }
     if due != 0 {
         return answer;

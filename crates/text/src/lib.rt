@@ -27,39 +27,39 @@ pub enum ByteClass {
 fn is_space(b: u8) -> bool
     ensures { λ r. ⌜ r ≡ isSpace b ⌝ }
 {
-    if b == 32 {
+    if b == b' ' {
         return true;
     }
-    if b < 9 {
+    if b < b'\t' {
         return false;
     }
-    b <= 13
+    b <= b'\r'
 }
 
 // `0` to `9`.
 fn is_digit(b: u8) -> bool
     ensures { λ r. ⌜ r ≡ isDigit b ⌝ }
 {
-    if b < 48 {
+    if b < b'0' {
         return false;
     }
-    b <= 57
+    b <= b'9'
 }
 
 // `A` to `Z` and `a` to `z`.
 fn is_letter(b: u8) -> bool
     ensures { λ r. ⌜ r ≡ isLetter b ⌝ }
 {
-    if b < 65 {
+    if b < b'A' {
         return false;
     }
-    if b <= 90 {
+    if b <= b'Z' {
         return true;
     }
-    if b < 97 {
+    if b < b'a' {
         return false;
     }
-    b <= 122
+    b <= b'z'
 }
 
 // Letters, digits and the underscore.
@@ -72,7 +72,7 @@ fn is_word(b: u8) -> bool
     if is_digit(b) {
         return true;
     }
-    b == 95
+    b == b'_'
 }
 
 impl ByteClass {

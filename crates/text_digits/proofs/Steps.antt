@@ -7,11 +7,20 @@ use native.Mathlib.Numerals.{add-one, add-two}
 use lib.ListN.{length, set, length-set}
 use lib.Seq.{sets}
 use borrow.Author.Needs.{needs}
+use borrow.Author.Tests.{le-ltb, lt-ltb}
 use Rattle.text_write.specs.declared.Put.{Put}
 use Rattle.text_write.specs.Digits.{digitByte, digitsOf, digitCount, prefixedText, fewestText, decimalText}
 use Rattle.text_write.specs.Put.{putInto, putCount}
 use Rattle.text_write.proofs.Laws.{sets-append, set-sets, digitCount-positive, digitCount-most, digitCount-64, digitCount-low, digitCount-suc, length-digits, digit-below, length-prefixed, length-decimal}
 use Rattle.text_write.proofs.Steps.{put-laws}
+
+-- ---- digit_byte: the two ranges of digits
+module _ (d : ℕ) where
+  pub byte-decimal : d < 10 → 48 + d ≡ digitByte d
+  byte-decimal h = simp (lt-ltb _ _ h)
+
+  pub byte-letter : 10 ≤ d → 97 + (d - 10) ≡ digitByte d
+  byte-letter h = let e : 97 + (d - 10) ≡ 87 + d = omega arith in e ∙ simp (le-ltb _ _ h)
 
 -- ---- count_digits: x is what the loop set out to count
 module _ (base x k n v : ℕ) where

@@ -14,9 +14,9 @@ fn digit_byte(digit: u64) -> u8
     ensures { λ r. ⌜ r ≡ digitByte digit ⌝ }
 {
     if digit < 10 {
-        48 + (digit as u8)
+        b'0' + (digit as u8)
     } else {
-        87 + (digit as u8)
+        b'a' + ((digit - 10) as u8)
     }
 }
 
@@ -65,8 +65,8 @@ fn put_prefixed(text: &mut [u8], at: usize, count: usize, number: u64) -> Put
     if text.len() - size < at {
         return Put::Short;
     }
-    text[at] = 48;
-    text[at + 1] = 120;
+    text[at] = b'0';
+    text[at + 1] = b'x';
     put_digits(text, at + 2, count, number, 16);
     Put::Count(size)
 }

@@ -11,14 +11,14 @@ ghost use Rattle.text.specs.Pieces.{firstPiece};
 pub fn first_line(text: &[u8]) -> Line
     ensures { λ r. ⌜ r ≡ firstLine (now (text .entry)) ⌝ }
 {
-    let n = ByteClass::IsNot(10).scan(text);
+    let n = ByteClass::IsNot(b'\n').scan(text);
     if n == text.len() {
         return Line { length: n, next: n };
     }
     if n == 0 {
         return Line { length: 0, next: 1 };
     }
-    if text[n - 1] == 13 {
+    if text[n - 1] == b'\r' {
         return Line {
             length: n - 1,
             next: n + 1,

@@ -44,17 +44,17 @@ module _ (b : ℕ) where
   unfolding digitValue isDigit
   digit-between h k = simp (above 48 57 b h, below 97 102 b (omega arith), below 65 70 b k)
 
-  pub digit-upper : 65 ≤ b → b ≤ 70 → b - 55 ≡ digitValue b
+  pub digit-upper : 65 ≤ b → b ≤ 70 → b - 65 + 10 ≡ digitValue b
   unfolding digitValue isDigit
-  digit-upper h k = simp (above 48 57 b (omega arith), below 97 102 b (omega arith), inside 65 70 b h k)
+  digit-upper h k = let e : b - 65 + 10 ≡ b - 55 = omega arith in e ∙ simp (above 48 57 b (omega arith), below 97 102 b (omega arith), inside 65 70 b h k)
 
   pub digit-gap : 70 < b → b < 97 → 16 ≡ digitValue b
   unfolding digitValue isDigit
   digit-gap h k = simp (above 48 57 b (omega arith), below 97 102 b k, above 65 70 b h)
 
-  pub digit-lower : 97 ≤ b → b ≤ 102 → b - 87 ≡ digitValue b
+  pub digit-lower : 97 ≤ b → b ≤ 102 → b - 97 + 10 ≡ digitValue b
   unfolding digitValue isDigit
-  digit-lower h k = simp (above 48 57 b (omega arith), inside 97 102 b h k)
+  digit-lower h k = let e : b - 97 + 10 ≡ b - 87 = omega arith in e ∙ simp (above 48 57 b (omega arith), inside 97 102 b h k)
 
   pub digit-above : 102 < b → 16 ≡ digitValue b
   unfolding digitValue isDigit

@@ -15,23 +15,23 @@ pub enum Numeral {
 fn digit_value(b: u8) -> u64
     ensures { λ r. ⌜ r ≡ digitValue b ⌝ }
 {
-    if b < 48 {
+    if b < b'0' {
         return 16;
     }
-    if b <= 57 {
-        return (b - 48) as u64;
+    if b <= b'9' {
+        return (b - b'0') as u64;
     }
-    if b < 65 {
+    if b < b'A' {
         return 16;
     }
-    if b <= 70 {
-        return (b - 55) as u64;
+    if b <= b'F' {
+        return (b - b'A' + 10) as u64;
     }
-    if b < 97 {
+    if b < b'a' {
         return 16;
     }
-    if b <= 102 {
-        return (b - 87) as u64;
+    if b <= b'f' {
+        return (b - b'a' + 10) as u64;
     }
     16
 }
@@ -90,10 +90,10 @@ fn prefix_length(text: &[u8]) -> usize
 {
     let mut i: usize = 0;
     while 2 <= text.len() - i {
-        if text[i] != 48 {
+        if text[i] != b'0' {
             return i;
         }
-        if text[i + 1] != 120 {
+        if text[i + 1] != b'x' {
             return i;
         }
         i += 2;
@@ -110,7 +110,7 @@ pub fn read_hexadecimal(text: &[u8], most: u64) -> Numeral
     if rest.len() == 0 {
         return Numeral::Nothing;
     }
-    if rest[0] == 43 {
+    if rest[0] == b'+' {
         return read_digits(&rest[1..], 16, most);
     }
     if rest.len() == 16 {

@@ -6,16 +6,17 @@ use Prim.Native.Nat.{ℕ, _+_, _*_, _/_, _%_, _^_, _<_, _≤_}
 use native.Mathlib.Nat.{pow-le-pow-right, mod-eq-of-lt, one-mul}
 use native.Mathlib.Numerals.{add-one}
 use native.Mathlib.Omega.{arith}
-use borrow.Author.Tests.{eq-eqb, ne-eqb}
-use lib.Dec.{lit<, lit≤}
+use borrow.Author.Tests.{eq-eqb, ne-eqb, ltb-true}
+use lib.Dec.{ltb, lit<, lit≤}
 use lib.ListN.{length, getD, drop, drop-of-length-le}
 use lib.Seq.{drop-cons}
 use Rattle.text.specs.Bytes.{isDigit, same}
 use Rattle.vm_opcodes.specs.Operations.{bit}
 use Rattle.vm_opcodes.proofs.Table.{at}
+use Rattle.vm_opcodes.proofs.Variants.{each}
 use Rattle.vm_hardware.specs.Registers.{placeIndex, placeBit, registers, registerIndex, registerAt, registerBit, firstRegister, registerText, registerOf, specialText, specialOf}
 use Rattle.vm_hardware.specs.declared.OlaRegister.{OlaRegister}
-use Rattle.vm_hardware.specs.declared.OlaRegister.the-variants.{R0, R1, R2, R3, R4, R5, R6, R7, R8, R9}
+use Rattle.vm_hardware.specs.declared.OlaRegister.the-variants.{R0}
 use Rattle.vm_hardware.specs.declared.OlaSpecialRegister.{OlaSpecialRegister}
 use Rattle.vm_hardware.specs.declared.OlaSpecialRegister.the-variants.{PC, PSP}
 use Rattle.vm_hardware.specs.declared.Place.{Place}
@@ -23,33 +24,16 @@ use Rattle.vm_hardware.specs.declared.Place.the-variants.{Op0, Op1, Dst}
 use Rattle.vm_hardware.specs.declared.RegisterFound.{RegisterFound}
 use Rattle.vm_hardware.specs.declared.RegisterFound.the-variants.{Is as IsRegister, Nothing as NoRegister}
 use Rattle.vm_hardware.specs.declared.SpecialFound.the-variants.{Is as IsSpecial, Nothing as NoSpecial}
+use Rattle.vm_hardware.proofs.OlaRegister.{enum}
 
--- a register's index is below ten
+-- a register's index is below ten: one computed test over the registers, as in the next law
 pub index-lt : (r : OlaRegister) → registerIndex r < 10
-index-lt R0 = lit< tt
-index-lt R1 = lit< tt
-index-lt R2 = lit< tt
-index-lt R3 = lit< tt
-index-lt R4 = lit< tt
-index-lt R5 = lit< tt
-index-lt R6 = lit< tt
-index-lt R7 = lit< tt
-index-lt R8 = lit< tt
-index-lt R9 = lit< tt
+index-lt r = ltb-true (registerIndex r) 10 (each enum tt (λ q. ltb (registerIndex q) 10) (λ q. true) refl r)
 
 -- the register at a register's index is that register
 pub register-at-index : (r : OlaRegister) → getD registers (registerIndex r) R0 ≡ r
 unfolding registers
-register-at-index R0 = refl
-register-at-index R1 = refl
-register-at-index R2 = refl
-register-at-index R3 = refl
-register-at-index R4 = refl
-register-at-index R5 = refl
-register-at-index R6 = refl
-register-at-index R7 = refl
-register-at-index R8 = refl
-register-at-index R9 = refl
+register-at-index = each enum tt (λ r. getD registers (registerIndex r) R0) (λ r. r) refl
 
 -- two registers with one index are one register
 pub index-one : (a b : OlaRegister) → registerIndex a ≡ registerIndex b → a ≡ b
@@ -169,16 +153,7 @@ none-left p x w i s h = first-none (λ r. bit (registerBit p r) w) x registers i
 -- a spelling is read as what it was written for
 pub register-of-text : (r : OlaRegister) → registerOf (registerText r) ≡ IsRegister r
 unfolding registerOf isDigit registers
-register-of-text R0 = refl
-register-of-text R1 = refl
-register-of-text R2 = refl
-register-of-text R3 = refl
-register-of-text R4 = refl
-register-of-text R5 = refl
-register-of-text R6 = refl
-register-of-text R7 = refl
-register-of-text R8 = refl
-register-of-text R9 = refl
+register-of-text = each enum tt (λ r. registerOf (registerText r)) IsRegister refl
 
 pub special-of-text : (s : OlaSpecialRegister) → specialOf (specialText s) ≡ IsSpecial s
 unfolding specialOf same

@@ -2,81 +2,31 @@
 use mathlib.Core.Path.{_≡_, refl, sym, ap, _∙_}
 use mathlib.Core.Bool.{Bool, true, false, cond}
 use mathlib.Core.List.{List, [], _∷_, map}
-use Prim.Native.Nat.{ℕ, _+_, _*_, _/_, _%_, _^_, _<_, _≤_}
+use Prim.Native.Nat.{ℕ, _+_, _-_, _*_, _/_, _%_, _^_, _<_, _≤_}
 use native.Mathlib.Nat.{pow-le-pow-right, mod-eq-of-lt, one-mul}
 use native.Mathlib.Numerals.{add-one}
 use native.Mathlib.Omega.{arith}
-use borrow.Author.Tests.{eq-eqb, ne-eqb}
-use lib.Dec.{lit<}
+use borrow.Author.Tests.{eq-eqb, ne-eqb, ltb-true}
+use lib.Dec.{ltb, lit<}
 use lib.ListN.{length, getD, drop, replicate, drop-of-length-le, getD-replicate}
 use lib.Seq.{drop-cons}
 use Rattle.vm_opcodes.specs.Operations.{operations, indexOf, operationBit, bit, firstOperation}
 use Rattle.vm_opcodes.specs.declared.OlaOpcode.{OlaOpcode}
-use Rattle.vm_opcodes.specs.declared.OlaOpcode.the-variants.{ADD, MUL, EQ, ASSERT, MOV, JMP, CJMP, CALL, RET, MLOAD, MSTORE, END, RC, AND, OR, XOR, NOT, NEQ, GTE, POSEIDON, SLOAD, SSTORE, TLOAD, TSTORE, SCCALL, SIGCHECK, EVENT}
+use Rattle.vm_opcodes.specs.declared.OlaOpcode.the-variants.{ADD}
 use Rattle.vm_opcodes.specs.declared.OpcodeFound.{OpcodeFound}
 use Rattle.vm_opcodes.specs.declared.OpcodeFound.the-variants.{Is, Nothing}
-use Rattle.vm_opcodes.proofs.Table.{at}
+use Rattle.vm_opcodes.proofs.OlaOpcode.{enum}
+use Rattle.vm_opcodes.proofs.Table.{at, placed}
+use Rattle.vm_opcodes.proofs.Variants.{each}
 
--- an operation's index is below 27
+-- an operation's index is below 27: one computed test over the operations, as in the next law
 pub index-lt : (o : OlaOpcode) → indexOf o < 27
-index-lt ADD = lit< tt
-index-lt MUL = lit< tt
-index-lt EQ = lit< tt
-index-lt ASSERT = lit< tt
-index-lt MOV = lit< tt
-index-lt JMP = lit< tt
-index-lt CJMP = lit< tt
-index-lt CALL = lit< tt
-index-lt RET = lit< tt
-index-lt MLOAD = lit< tt
-index-lt MSTORE = lit< tt
-index-lt END = lit< tt
-index-lt RC = lit< tt
-index-lt AND = lit< tt
-index-lt OR = lit< tt
-index-lt XOR = lit< tt
-index-lt NOT = lit< tt
-index-lt NEQ = lit< tt
-index-lt GTE = lit< tt
-index-lt POSEIDON = lit< tt
-index-lt SLOAD = lit< tt
-index-lt SSTORE = lit< tt
-index-lt TLOAD = lit< tt
-index-lt TSTORE = lit< tt
-index-lt SCCALL = lit< tt
-index-lt SIGCHECK = lit< tt
-index-lt EVENT = lit< tt
+index-lt o = ltb-true (indexOf o) 27 (each enum tt (λ q. ltb (indexOf q) 27) (λ q. true) refl o)
 
 -- the operation at an operation's index is that operation
 pub operation-at-index : (o : OlaOpcode) → getD operations (indexOf o) ADD ≡ o
 unfolding operations
-operation-at-index ADD = refl
-operation-at-index MUL = refl
-operation-at-index EQ = refl
-operation-at-index ASSERT = refl
-operation-at-index MOV = refl
-operation-at-index JMP = refl
-operation-at-index CJMP = refl
-operation-at-index CALL = refl
-operation-at-index RET = refl
-operation-at-index MLOAD = refl
-operation-at-index MSTORE = refl
-operation-at-index END = refl
-operation-at-index RC = refl
-operation-at-index AND = refl
-operation-at-index OR = refl
-operation-at-index XOR = refl
-operation-at-index NOT = refl
-operation-at-index NEQ = refl
-operation-at-index GTE = refl
-operation-at-index POSEIDON = refl
-operation-at-index SLOAD = refl
-operation-at-index SSTORE = refl
-operation-at-index TLOAD = refl
-operation-at-index TSTORE = refl
-operation-at-index SCCALL = refl
-operation-at-index SIGCHECK = refl
-operation-at-index EVENT = refl
+operation-at-index = each enum tt (λ o. getD operations (indexOf o) ADD) (λ o. o) refl
 
 -- two operations with one index are one operation
 pub index-one : (a b : OlaOpcode) → indexOf a ≡ indexOf b → a ≡ b
@@ -98,6 +48,11 @@ module _ {Y : Type 0} (f : OlaOpcode → Y) (d : Y) (table : List Y) (t : table 
   pub entry-of : (o : OlaOpcode) (i : ℕ) → i ≡ indexOf o → getD table i d ≡ f o
   entry-of o i e = entry-at i (indexed-lt i o e) ∙ ap (λ (k : ℕ). f (getD operations k ADD)) e ∙ ap f (operation-at-index o)
 
+-- the operation at a place of the order has that index
+place-index : (i : ℕ) → i < 27 → indexOf (getD operations i ADD) ≡ i
+unfolding operations
+place-index i h = sym (entry-at indexOf 0 (map indexOf operations) refl i h) ∙ placed (λ (k : ℕ). k) 0 27 (map indexOf operations) refl i h
+
 -- the one-hot rule: the bits of the operations are 5 to 31, and two operations have different bits
 pub bit-least : (o : OlaOpcode) → 5 ≤ operationBit o
 bit-least o = omega (arith, index-lt o)
@@ -107,10 +62,6 @@ bit-most o = omega arith
 
 pub bit-one : (a b : OlaOpcode) → operationBit a ≡ operationBit b → a ≡ b
 bit-one a b e = index-one a b (omega (arith, index-lt a, index-lt b))
-
--- an entry of the table of bits is at most 31
-pub shift-most : (shifts : List ℕ) → shifts ≡ map operationBit operations → (i : ℕ) → i < 27 → getD shifts i 0 ≤ 31
-shift-most shifts s i h = omega (arith, entry-at operationBit 0 shifts s i h)
 
 -- the word with an operation's bit alone fits 64 bits
 pub mask-lt : (o : OlaOpcode) → 2 ^ operationBit o < 2 ^ 64
@@ -153,18 +104,18 @@ module _ (f : OlaOpcode → Bool) (x : OpcodeFound) (l : List OlaOpcode) (i : �
   unfolding firstOperation
   first-none h = sym (e ∙ rw (drop-of-length-le l h))
 
--- the search for the highest bit at place i of the tables: the bit of the operation there decides
+-- the search for the highest bit at place i of the order, whose shift is 31 - i: the bit of the operation there decides
 module _ (x : OpcodeFound) (w i : ℕ) (e : x ≡ firstOperation (λ o. bit (operationBit o) w) (drop i operations)) where
-  module _ (shifts : List ℕ) (s : shifts ≡ map operationBit operations) (h : i < 27) where
-    same-bit : w / 2 ^ getD shifts i 0 % 2 ≡ w / 2 ^ operationBit (getD operations i ADD) % 2
-    same-bit = ap (λ (k : ℕ). w / 2 ^ k % 2) (entry-at operationBit 0 shifts s i h)
+  module _ (shift : ℕ) (s : shift ≡ 31 - i) (h : i < 27) where
+    same-bit : w / 2 ^ shift % 2 ≡ w / 2 ^ operationBit (getD operations i ADD) % 2
+    same-bit = ap (λ (k : ℕ). w / 2 ^ k % 2) (s ∙ ap (λ (k : ℕ). 31 - k) (sym (place-index i h)))
 
-    pub found : (table : List OlaOpcode) → table ≡ operations → w / 2 ^ getD shifts i 0 % 2 ≡ 1 → Is (getD table i ADD) ≡ x
+    pub found : (table : List OlaOpcode) → table ≡ operations → w / 2 ^ shift % 2 ≡ 1 → Is (getD table i ADD) ≡ x
     found table t b =
         ap (λ (l : List OlaOpcode). Is (getD l i ADD)) t
         ∙ first-passes (λ o. bit (operationBit o) w) x operations i e (omega (arith, operations-long)) (eq-eqb _ 1 (sym same-bit ∙ b))
 
-    pub passed : (w / 2 ^ getD shifts i 0 % 2 ≡ 1 → ⊥) → x ≡ firstOperation (λ o. bit (operationBit o) w) (drop (i + 1) operations)
+    pub passed : (w / 2 ^ shift % 2 ≡ 1 → ⊥) → x ≡ firstOperation (λ o. bit (operationBit o) w) (drop (i + 1) operations)
     passed b = first-fails (λ o. bit (operationBit o) w) x operations i e (omega (arith, operations-long)) (ne-eqb _ 1 (λ p. b (same-bit ∙ p)))
 
   pub none-left : 27 ≤ i → Nothing ≡ x

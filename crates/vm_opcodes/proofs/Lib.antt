@@ -1,3 +1,5 @@
 pub mod Table
+pub mod Variants
 pub mod Laws
+pub mod Arms
 pub mod Cases

@@ -45,6 +45,9 @@ impl ImmediateValue {
     // The order of the field, p.
     pub const ORDER: u64 = 0xFFFF_FFFF_0000_0001;
 
+    // The largest number of the field, p - 1.
+    pub const LARGEST: u64 = Self::ORDER - 1;
+
     pub fn new(number: u64) -> Self
         ensures { λ r. ⌜ r ≡ immediate number ⌝ }
     {
@@ -82,19 +85,13 @@ impl ImmediateValue {
             return ImmediateFound::Nothing;
         }
         let sign = piece[0];
-        if sign == 45 {
-            return Self::from_sign(
-                true,
-                text_read::read_decimal(&piece[1..], 0xFFFF_FFFF_0000_0000),
-            );
+        if sign == b'-' {
+            return Self::from_sign(true, text_read::read_decimal(&piece[1..], Self::LARGEST));
         }
-        if sign == 43 {
-            return Self::from_sign(
-                false,
-                text_read::read_decimal(&piece[1..], 0xFFFF_FFFF_0000_0000),
-            );
+        if sign == b'+' {
+            return Self::from_sign(false, text_read::read_decimal(&piece[1..], Self::LARGEST));
         }
-        Self::from_sign(false, text_read::read_decimal(piece, 0xFFFF_FFFF_0000_0000))
+        Self::from_sign(false, text_read::read_decimal(piece, Self::LARGEST))
     }
 
     // Whether the number is below p.

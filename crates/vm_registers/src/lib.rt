@@ -20,17 +20,17 @@ pub fn register_from_str(piece: &[u8]) -> RegisterFound
     if piece.len() != 2 {
         return RegisterFound::Nothing;
     }
-    if piece[0] != 114 {
+    if piece[0] != b'r' {
         return RegisterFound::Nothing;
     }
     let digit = piece[1];
-    if digit < 48 {
+    if digit < b'0' {
         return RegisterFound::Nothing;
     }
-    if 57 < digit {
+    if b'9' < digit {
         return RegisterFound::Nothing;
     }
-    let i = (digit - 48) as usize;
+    let i = (digit - b'0') as usize;
     RegisterFound::Is(vm_hardware::REGISTERS[i])
 }
 
@@ -38,8 +38,8 @@ pub fn register_from_str(piece: &[u8]) -> RegisterFound
 pub fn put_register(register: OlaRegister, text: &mut [u8], at: usize) -> Put
     ensures { λ r. ⌜ (r ≡ putCount (now (text .entry)) at (registerText register)) × (now (text .exit) ≡ putInto (now (text .entry)) at (registerText register)) ⌝ }
 {
-    let digit = 48 + (register.index() as u8);
-    let name = [114, digit];
+    let digit = b'0' + (register.index() as u8);
+    let name = [b'r', digit];
     text_write::put_bytes(text, at, &name)
 }
 

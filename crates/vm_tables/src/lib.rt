@@ -3,6 +3,7 @@ use vm_opcodes::OlaOpcode;
 use vm_opcodes::OpcodeFound;
 use vm_opcodes::RowPlaces;
 ghost use mathlib.Core.Path.{_≡_};
+ghost use Prim.Native.Nat.{_-_, _<_};
 ghost use Rattle.vm_opcodes.specs.Operations.{operationBit, operationMask, rowPlaces, operationIn};
 
 // The operations by their index.
@@ -67,6 +68,11 @@ const SHIFTS: [u8; 27] = [
     5,
 ];
 
+// The bits of mload and mstore, for whoever asks a word for them.
+pub const MLOAD_SHIFT: u64 = SHIFTS[OlaOpcode::MLOAD as usize] as u64;
+
+pub const MSTORE_SHIFT: u64 = SHIFTS[OlaOpcode::MSTORE as usize] as u64;
+
 // The one table of rows: the places of each operation's row, by the operation's index.
 const ROW_PLACES: [RowPlaces; 27] = [
     RowPlaces::DstOp0Op1,
@@ -98,12 +104,20 @@ const ROW_PLACES: [RowPlaces; 27] = [
     RowPlaces::Op0Op1,
 ];
 
+// The shift at a place of the table. Each is one less than the one before, so that no two operations have one bit: the one-hot rule, tested once over the table.
+fn shift_at(i: usize) -> u8
+    requires { ⌜ i < 27 ⌝ }
+    ensures { λ r. ⌜ r ≡ 31 - i ⌝ }
+{
+    SHIFTS[i]
+}
+
 // The bit of a first word that stands for the operation.
 pub fn binary_bit_shift(opcode: OlaOpcode) -> u8
     ensures { λ r. ⌜ r ≡ operationBit opcode ⌝ }
 {
     let i = opcode.index();
-    SHIFTS[i]
+    shift_at(i)
 }
 
 // The word that has this bit alone.
@@ -127,7 +141,7 @@ pub fn highest_operation(word: u64) -> OpcodeFound
 {
     let mut i = 0;
     while i < 27 {
-        let shift = SHIFTS[i];
+        let shift = shift_at(i);
         if (word >> (shift as u64)) % 2 == 1 {
             return OpcodeFound::Is(OPERATIONS[i]);
         }

@@ -1,12 +1,11 @@
 -- The spelling that an operation has: what the arms of a match on operations tell of it, and the put.
 use Prim.Native.Nat.{ℕ}
-use mathlib.Core.Path.{_≡_, refl, sym, ap, _∙_, subst}
-use mathlib.Core.List.{List, [], _∷_, map}
-use mathlib.Core.Bool.{Bool, true, false, cond, not, _||_}
-use mir.Val.{hasKey}
-use types.Run.{OneOf, miss}
+use mathlib.Core.Path.{_≡_, sym, ap, _∙_, subst}
+use mathlib.Core.List.{List, map}
+use mathlib.Core.Bool.{Bool, true, not, _||_}
+use types.Run.{OneOf}
 use denote.Enum.Declared.{tagOf}
-use lib.Dec.{T, eqb}
+use lib.Dec.{eqb}
 use lib.ListN.{length}
 use borrow.Author.Tests.{eqb-true, eq-eqb}
 use Rattle.text_write.specs.declared.Put.{Put}
@@ -14,28 +13,10 @@ use Rattle.text_write.specs.Put.{putCount, putInto}
 use Rattle.vm_opcodes.specs.declared.OlaOpcode.{OlaOpcode}
 use Rattle.vm_opcodes.proofs.OlaOpcode.{the-type}
 use Rattle.vm_opcodes.specs.Operations.{operations, indexOf}
-use Rattle.vm_opcodes.proofs.Laws.{agree, index-one}
+use Rattle.vm_opcodes.proofs.Laws.{index-one}
+use Rattle.vm_opcodes.proofs.Arms.{Holds, at-arm}
 use Rattle.vm_mnemonics.specs.Mnemonics.{mnemonic}
 use Rattle.vm_mnemonics.proofs.Laws.{ofLength}
-
--- an operation's tag is its index
-all-tags : map (tagOf the-type) operations ≡ map indexOf operations
-unfolding operations
-all-tags = refl
-
--- what holds of each operation that comes to an arm of the tags ks: one computed test over the operations
-abbrev pub Holds : List ℕ → (OlaOpcode → Bool) → Type 0
-Holds ks p = map (λ o. p o || not (hasKey ks (indexOf o))) operations ≡ map (λ o. true) operations
-
-at-arm : (ks : List ℕ) (p : OlaOpcode → Bool) → Holds ks p → (o : OlaOpcode) → OneOf ks (tagOf the-type o) → p o ≡ true
-at-arm ks p t o k = go (p o) (hasKey ks (indexOf o)) refl (agree (λ q. true) (λ q. p q || not (hasKey ks (indexOf q))) true t o)
-  where
-    go : (a b : Bool) → hasKey ks (indexOf o) ≡ b → a || not b ≡ true → a ≡ true
-    go true b e h = refl
-    go false true e h = h
-    go false false e h =
-        let i : OneOf ks (indexOf o) = subst (OneOf ks) (agree indexOf (tagOf the-type) 0 all-tags o) k in
-        absurd (miss ks (indexOf o) (subst (λ (b : Bool). T (not b)) (sym e) tt) i)
 
 -- an arm of operations whose spelling has n bytes
 abbrev pub tags : ℕ → List ℕ
@@ -47,11 +28,7 @@ long n o = eqb (length (mnemonic o)) n
 pub length-arm : (n : ℕ) (ks : List ℕ) → Holds ks (long n) → (o : OlaOpcode) → OneOf ks (tagOf the-type o) → length (mnemonic o) ≡ n
 length-arm n ks t o k = eqb-true _ _ (at-arm ks (long n) t o k)
 
--- an arm of all operations os but ps, where one alone of them has a spelling of n bytes
-unfoldable pub beside : List OlaOpcode → List OlaOpcode → List ℕ
-beside ps [] = []
-beside ps (o ∷ os) = cond (hasKey (map indexOf ps) (indexOf o)) (beside ps os) (indexOf o ∷ beside ps os)
-
+-- the last arm, where one alone of its operations has a spelling of n bytes
 abbrev alone : ℕ → OlaOpcode → OlaOpcode → Bool
 alone n last o = not (long n o) || eqb (indexOf o) (indexOf last)
 

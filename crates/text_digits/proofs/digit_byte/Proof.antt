@@ -1,6 +1,6 @@
 -- digit_byte: the two ranges of digits.
-use borrow.Author.Tests.{le-ltb, lt-ltb}
 use borrow.Author.Needs.{needs}
+use Rattle.text_digits.proofs.Steps.{byte-decimal, byte-letter}
 use Rattle.text_digits.proofs.digit_byte.Statement.{statement}
 use Rattle.text_digits.proofs.digit_byte.Tie as tie
 
@@ -17,10 +17,10 @@ add-result-2 : tie.Need-add-result-2
 add-result-2 c = search needs
 
 returns : tie.Need-returns
-returns c = search (le-ltb, lt-ltb)
+returns c = search byte-decimal
 
 returns-2 : tie.Need-returns-2
-returns-2 c = search (le-ltb, lt-ltb)
+returns-2 c = search byte-letter
 
 pub digit-byte-spec : {M : Type 1} → statement M
 digit-byte-spec =

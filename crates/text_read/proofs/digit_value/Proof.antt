@@ -15,8 +15,8 @@ returns-2 c = search digit-laws
 returns-3 : tie.Need-returns-3
 returns-3 c = search digit-laws
 
-sub-result : tie.Need-sub-result
-sub-result c = search digit-laws
+add-result : tie.Need-add-result
+add-result c = search digit-laws
 
 cast-result-2 : tie.Need-cast-result-2
 cast-result-2 c = search digit-laws
@@ -27,8 +27,8 @@ returns-4 c = search digit-laws
 returns-5 : tie.Need-returns-5
 returns-5 c = search digit-laws
 
-sub-result-2 : tie.Need-sub-result-2
-sub-result-2 c = search digit-laws
+add-result-2 : tie.Need-add-result-2
+add-result-2 c = search digit-laws
 
 cast-result-3 : tie.Need-cast-result-3
 cast-result-3 c = search digit-laws
@@ -47,11 +47,11 @@ digit-value-spec =
     cast-result
     returns-2
     returns-3
-    sub-result
+    add-result
     cast-result-2
     returns-4
     returns-5
-    sub-result-2
+    add-result-2
     cast-result-3
     returns-6
     returns-7)

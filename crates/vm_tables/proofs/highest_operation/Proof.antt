@@ -4,7 +4,7 @@ use Prim.Native.Nat.{_-_, _≤_}
 use native.Mathlib.Omega.{arith}
 use lib.ListN.{drop}
 use Rattle.vm_opcodes.specs.Operations.{operations, operationIn, firstOperation, bit, operationBit}
-use Rattle.vm_opcodes.proofs.Laws.{shift-most, found, passed, none-left}
+use Rattle.vm_opcodes.proofs.Laws.{found, passed, none-left}
 use Rattle.vm_tables.proofs.highest_operation.Statement.{statement}
 use Rattle.vm_tables.proofs.highest_operation.Tie as tie
 
@@ -17,23 +17,23 @@ abbrev μ-loop : tie.MeasureT-loop
 loop-holds : tie.Need-loop-holds Inv-loop μ-loop
 loop-holds c = (omega arith, refl)
 
-array-read-shift : tie.Need-array-read-shift Inv-loop μ-loop
-array-read-shift c = omega arith
+shift-at-requires : tie.Need-shift-at-requires Inv-loop μ-loop
+shift-at-requires c κs = omega arith
 
 cast-if1 : tie.Need-cast-if1 Inv-loop μ-loop
-unfolding operations
-cast-if1 c = omega (arith, shift-most _ refl (c .before .loop .i) (omega arith))
+cast-if1 c = omega arith
 
 shr-if1 : tie.Need-shr-if1 Inv-loop μ-loop
-unfolding operations
-shr-if1 c = omega (arith, shift-most _ refl (c .before .loop .i) (omega arith))
+shr-if1 c = omega arith
 
-array-copy-out-t42 : tie.Need-array-copy-out-t42 Inv-loop μ-loop
-array-copy-out-t42 c = omega arith
+array-copy-out-t38 : tie.Need-array-copy-out-t38 Inv-loop μ-loop
+array-copy-out-t38 c = omega arith
 
 returns : tie.Need-returns Inv-loop μ-loop
 unfolding operations
-returns c = found _ (c .before .before .before .before .args .word) (c .before .before .before .loop .i) (c .before .before .before .loop .inv .1) _ refl (omega arith) _ refl (c .before .if1 .taken)
+returns c =
+    let at = c .before .before .before .before in
+    found _ (at .before .args .word) (at .loop .i) (at .loop .inv .1) _ (c .before .before .shift-at .ensures) (omega arith) _ refl (c .before .if1 .taken)
 
 add-i : tie.Need-add-i Inv-loop μ-loop
 add-i c = omega arith
@@ -42,8 +42,9 @@ loop-less : tie.Need-loop-less Inv-loop μ-loop
 loop-less c = omega arith
 
 loop-again : tie.Need-loop-again Inv-loop μ-loop
-unfolding operations
-loop-again c = (omega arith, passed _ (c .before .before .before .args .word) (c .before .before .loop .i) (c .before .before .loop .inv .1) _ refl (omega arith) (c .if1 .left))
+loop-again c =
+    let at = c .before .before .before in
+    (omega arith, passed _ (at .before .args .word) (at .loop .i) (at .loop .inv .1) _ (c .before .shift-at .ensures) (omega arith) (c .if1 .left))
 
 returns-2 : tie.Need-returns-2 Inv-loop μ-loop
 returns-2 c = none-left _ (c .before .before .args .word) (c .before .loop .i) (c .before .loop .inv .1) (omega arith)
@@ -55,10 +56,10 @@ highest-operation-spec =
     Inv-loop
     μ-loop
     loop-holds
-    array-read-shift
+    shift-at-requires
     cast-if1
     shr-if1
-    array-copy-out-t42
+    array-copy-out-t38
     returns
     add-i
     loop-less
