@@ -11,7 +11,7 @@ ghost use Rattle.relocate.specs.Columns.{entriesOf, heldAddress};
 ghost use Rattle.relocate_names.specs.References.{referenceOf, partOf};
 ghost use Rattle.relocate_names.specs.Shortest.{shortestOf};
 
-// The part of a source that starts at a place and has a length, an empty part where it reaches past the source's end.
+// The part of a source that starts at a place and has a length, the empty part at the source's start where it reaches past the source's end.
 pub fn name_at<'a>(source: &'a [u8], start: usize, length: usize) -> &'a [u8]
     ensures { λ r. ⌜ referenceOf r ≡ partOf (source .entry) (namePart (now (source .entry)) start length) ⌝ }
     ensures { λ r. ⌜ now r ≡ nameAt (now (source .entry)) start length ⌝ }
