@@ -69,11 +69,13 @@ typedef struct { uint64_t refusal, detail, count, first, second; } ola_encoding;
 /* A name as a part of the source. */
 typedef struct { size_t start, length; } ola_name;
 
-/* Assembles a source with a prophet list into a table of entries, words and hosts. Refusals 1 to 13. */
+/* Assembles a source with a prophet list into a table of entries, words and hosts. Refusals 1 to 13. Each `mapped` of the table is 0 or 1 before
+   the call, a fresh table's too: a table that was never initialised is the caller's fault. */
 ola_assembly ola_assemble(const uint8_t *source, size_t source_len, const uint8_t *prophets, size_t prophets_len,
                           ola_label *table, size_t table_len, uint64_t *words, size_t words_len, uint64_t *hosts, size_t hosts_len);
 
-/* The same with the table as five arrays; 7 where the shortest of them is shorter than the label rows. */
+/* The same with the table as five arrays; 7 where the shortest of them is shorter than the label rows. Each `mapped` of the table is 0 or 1 before
+   the call, a fresh table's too: a table that was never initialised is the caller's fault. */
 ola_assembly ola_assemble_parts(const uint8_t *source, size_t source_len, const uint8_t *prophets, size_t prophets_len,
                           uint8_t *kinds, size_t kinds_len, bool *mapped, size_t mapped_len, size_t *starts, size_t starts_len,
                           size_t *lengths, size_t lengths_len, uint64_t *addresses, size_t addresses_len,

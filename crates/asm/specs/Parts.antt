@@ -56,6 +56,19 @@ lineAt s i = record { start = i; text = take (scan notFeed (drop i s)) (drop i s
 abbrev pub nextLine : List ℕ → ℕ → ℕ
 nextLine s i = i + lineNext (drop i s)
 
--- "The name itself is handed back as that part of the source, an empty part where the entry reaches past the source's end"
+-- a part of the source by its place: where it starts, and how many bytes it has
+pub record Span : Type 0 where
+  pub start : ℕ
+  pub length : ℕ
+
+-- "The name itself is handed back as that part of the source, an empty part where the entry reaches past the source's end", which starts at 0
+abbrev pub namePart : List ℕ → ℕ → ℕ → Span
+namePart s start n = cond (leb (start + n) (length s)) (record { start = start; length = n }) (record { start = 0; length = 0 })
+
+-- a part's bytes
+abbrev pub bytesIn : List ℕ → Span → List ℕ
+bytesIn s p = take (p .length) (drop (p .start) s)
+
+-- a name's bytes
 unfoldable pub nameAt : List ℕ → ℕ → ℕ → List ℕ
-nameAt s start n = cond (leb (start + n) (length s)) (take n (drop start s)) []
+nameAt s start n = bytesIn s (namePart s start n)

@@ -89,13 +89,11 @@ name-first a c start n h =
 -- a name of the second
 name-second : (a b : List ℕ) (x start n : ℕ) → nameAt (a ++ x ∷ b) (length a + 1 + start) n ≡ nameAt b start n
 unfolding nameAt
-name-second a b x start n =
-    let e : length a + 1 + start ≡ length a + suc start = omega arith in
-    rw (e, drop-append-add a (x ∷ b) (suc start)) (ap (λ (t : Bool). cond t (take n (drop start b)) []) (go (leb (start + n) (length b)) refl))
+name-second a b x start n = let e : length a + 1 + start ≡ length a + suc start = omega arith in rw e (go (leb (start + n) (length b)) refl)
   where
-    go : (t : Bool) → leb (start + n) (length b) ≡ t → leb (length a + suc start + n) (length (a ++ x ∷ b)) ≡ t
-    go true e = let l = length-append a (x ∷ b) in let h = leb-true (start + n) (length b) e in le-leb (length a + suc start + n) (length (a ++ x ∷ b)) (omega arith)
-    go false e = let l = length-append a (x ∷ b) in let h = leb-false (start + n) (length b) e in lt-leb (length a + suc start + n) (length (a ++ x ∷ b)) (omega arith)
+    go : (t : Bool) → leb (start + n) (length b) ≡ t → nameAt (a ++ x ∷ b) (length a + suc start) n ≡ nameAt b start n
+    go true e = let l = length-append a (x ∷ b) in let h = leb-true (start + n) (length b) e in rw (le-leb (length a + suc start + n) (length (a ++ x ∷ b)) (omega arith), e, drop-append-add a (x ∷ b) (suc start))
+    go false e = let l = length-append a (x ∷ b) in let h = leb-false (start + n) (length b) e in rw (lt-leb (length a + suc start + n) (length (a ++ x ∷ b)) (omega arith), e)
 
 -- ---- the pieces of a text lie within it
 

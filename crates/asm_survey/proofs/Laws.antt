@@ -35,13 +35,13 @@ name-off : (s : List ℕ) (start n : ℕ) → (n ≡ 4 → ⊥) → same (nameAt
 unfolding nameAt
 name-off s start n h = go (leb (start + n) (length s)) refl
   where
-    go : (t : Bool) → leb (start + n) (length s) ≡ t → same (cond t (take n (drop start s)) []) (bytes "main") ≡ false
+    go : (t : Bool) → leb (start + n) (length s) ≡ t → same (nameAt s start n) (bytes "main") ≡ false
     go true e =
         let k : start + n ≤ length s = leb-true _ _ e in
         let d = length-drop start s in
         let l : length (take n (drop start s)) ≡ n = length-take-le n (drop start s) (omega arith) in
-        same-off (take n (drop start s)) (bytes "main") (λ f. h (sym l ∙ f))
-    go false e = same-off [] (bytes "main") (λ f. omega (arith, f))
+        rw e (same-off (take n (drop start s)) (bytes "main") (λ f. h (sym l ∙ f)))
+    go false e = rw e (same-off [] (bytes "main") (λ f. omega (arith, f)))
 
 module _ (s : List ℕ) (start n : ℕ) where
   pub main-length : (n ≡ 4 → ⊥) → false ≡ same (nameAt s start n) (bytes "main")

@@ -1,12 +1,12 @@
 -- Laws of the answers as numbers, one for each way out of a function.
-use Prim.Native.Nat.{ℕ, _+_, _-_, _<_, _≤_}
-use mathlib.Core.Path.{_≡_}
+use Prim.Native.Nat.{ℕ, _-_, _<_, _≤_}
+use mathlib.Core.Path.{_≡_, ap}
 use mathlib.Core.List.{List}
-use native.Mathlib.Omega.{arith}
 use lib.ListN.{length}
-use borrow.Author.Tests.{le-leb, lt-leb}
 use borrow.Author.Needs.{needs}
 use Rattle.text.specs.Answer.{ok, refused}
+use Rattle.asm.specs.Parts.{namePart}
+use Rattle.asm.proofs.SpanLaws.{span-past, span-long, span-within}
 use Rattle.encoder.specs.Assemble.{numbered, assembleNumber, assembleDetail}
 use Rattle.encoder.specs.declared.AssembleRefusal.{AssembleRefusal}
 use Rattle.encoder.specs.declared.Totals.{Totals}
@@ -29,7 +29,7 @@ use Rattle.program_listing.specs.declared.RowWritten.the-variants.{Is as IsRow,
 use Rattle.program_encode.specs.Encoding.{encodingNumbered}
 use Rattle.program_encode.specs.declared.Encoding.{Encoding}
 use Rattle.program_encode.specs.declared.Encoding.the-variants.{Is as IsEncoded, Refused as NotEncoded}
-use Rattle.ola_answers.specs.Answers.{assemblyOf, writtenOf, encodingOf, namePart}
+use Rattle.ola_answers.specs.Answers.{assemblyOf, writtenOf, encodingOf, nameOf}
 use Rattle.ola_answers.specs.declared.OlaWritten.{OlaWritten}
 
 -- ---- assembling
@@ -83,13 +83,13 @@ pub ruleset encoding-laws = (two-words, one-word, unencoded, needs)
 -- ---- the part that a name is
 
 module _ (s : List ℕ) (start n : ℕ) where
-  pub starts-past : length s < start → record { start = 0; length = 0 } ≡ namePart s start n
-  starts-past h = rw (lt-leb (start + n) (length s) (omega arith))
+  pub starts-past : length s < start → record { start = 0; length = 0 } ≡ nameOf (namePart s start n)
+  starts-past h = ap nameOf (span-past s start n h)
 
-  pub reaches-past : start ≤ length s → length s - start < n → record { start = 0; length = 0 } ≡ namePart s start n
-  reaches-past g h = rw (lt-leb (start + n) (length s) (omega arith))
+  pub reaches-past : start ≤ length s → length s - start < n → record { start = 0; length = 0 } ≡ nameOf (namePart s start n)
+  reaches-past g h = ap nameOf (span-long s start n g h)
 
-  pub name-within : start ≤ length s → n ≤ length s - start → record { start = start; length = n } ≡ namePart s start n
-  name-within g h = rw (le-leb (start + n) (length s) (omega arith))
+  pub name-within : start ≤ length s → n ≤ length s - start → record { start = start; length = n } ≡ nameOf (namePart s start n)
+  name-within g h = ap nameOf (span-within s start n g h)
 
 pub ruleset name-laws = (starts-past, reaches-past, name-within, needs)

@@ -1,11 +1,8 @@
 -- The library's answers as numbers, all but those of opening and next: refusal 0 means accepted, and "On refusal, fields other than refusal and detail
 -- are 0".
-use Prim.Native.Nat.{ℕ, _+_}
-use mathlib.Core.List.{List}
-use mathlib.Core.Bool.{cond}
-use lib.Dec.{leb}
-use lib.ListN.{length}
+use Prim.Native.Nat.{ℕ}
 use Rattle.text.specs.Answer.{Answer, ok, refused}
+use Rattle.asm.specs.Parts.{Span}
 use Rattle.program.specs.declared.InstructionWords.{InstructionWords}
 use Rattle.program.specs.declared.SecondWord.{SecondWord}
 use Rattle.program.specs.declared.SecondWord.the-variants.{Number, Nothing}
@@ -31,6 +28,6 @@ abbrev pub encodingOf : Answer InstructionWords → OlaEncoding
 encodingOf (ok w) = secondOut (w .first) (w .second)
 encodingOf (refused n d) = record { refusal = n; detail = d; count = 0; first = 0; second = 0 }
 
--- the part of a source that a name is: "an empty part where the entry reaches past the source's end"
-abbrev pub namePart : List ℕ → ℕ → ℕ → OlaName
-namePart s start n = cond (leb (start + n) (length s)) (record { start = start; length = n }) (record { start = 0; length = 0 })
+-- the part of a source that a name is
+abbrev pub nameOf : Span → OlaName
+nameOf p = record { start = p .start; length = p .length }

@@ -9,12 +9,13 @@ use program_encode::Encoding;
 use program_listing::RowWritten;
 ghost use mathlib.Core.Path.{_≡_};
 ghost use Rattle.text.specs.Answer.{ok, refused};
+ghost use Rattle.asm.specs.Parts.{namePart};
 ghost use Rattle.encoder.specs.Assemble.{numbered};
 ghost use Rattle.program.specs.Refusals.{rowNumber, encodeNumber, encodeDetail};
 ghost use Rattle.program_bytecode.specs.Written.{writtenNumbered};
 ghost use Rattle.program_encode.specs.Encoding.{encodingNumbered};
 ghost use Rattle.program_listing.specs.Row.{rowNumbered};
-ghost use Rattle.ola_answers.specs.Answers.{assemblyOf, writtenOf, encodingOf, namePart};
+ghost use Rattle.ola_answers.specs.Answers.{assemblyOf, writtenOf, encodingOf, nameOf};
 
 #[repr(C)]
 pub struct OlaAssembly {
@@ -182,7 +183,7 @@ pub fn encoding_out(answer: Encoding) -> OlaEncoding
 
 // The part of a source that a name at a place is, none where the source does not reach so far.
 pub fn name_out(source: &[u8], start: usize, length: usize) -> OlaName
-    ensures { λ r. ⌜ r ≡ namePart (now (source .entry)) start length ⌝ }
+    ensures { λ r. ⌜ r ≡ nameOf (namePart (now (source .entry)) start length) ⌝ }
 {
     if source.len() < start {
         return OlaName {

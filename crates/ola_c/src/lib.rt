@@ -10,6 +10,7 @@ use ola_steps::OlaStep;
 use relocate::LabelEntry;
 ghost use mathlib.Core.Path.{_≡_};
 ghost use lib.ListN.{length};
+ghost use Rattle.asm.specs.Parts.{namePart};
 ghost use Rattle.relocate.specs.Relocate.{tabled};
 ghost use Rattle.relocate.specs.Columns.{tableLeft, columnLeft, kindOf, mappedOf, startOf, lengthOf, addressIn};
 ghost use Rattle.relocate_names.specs.Shortest.{shortestOf};
@@ -19,7 +20,7 @@ ghost use Rattle.encoder.specs.Assemble.{assembled, assembledTotals, wordsLeft,
 ghost use Rattle.decoder.specs.Open.{opened};
 ghost use Rattle.decoder.specs.Steps.{acceptedOf, stepped, steppedAt};
 ghost use Rattle.ola_places.specs.Places.{instructionIn};
-ghost use Rattle.ola_answers.specs.Answers.{assemblyOf, writtenOf, namePart};
+ghost use Rattle.ola_answers.specs.Answers.{assemblyOf, writtenOf, nameOf};
 ghost use Rattle.ola_steps.specs.Steps.{openedOf};
 ghost use Rattle.ola_c.specs.Exports.{version, lineStep, offsetStep, encodingNamed, listed, listedText};
 
@@ -35,6 +36,7 @@ pub extern "C" fn ola_version() -> u64
 }
 
 // Assembles a source with a prophet list over parallel arrays.
+// Promises: counts-answered, words-left, same-words, same-bytecode, words-ahead, names-are-word-counts, one-program, later-kept, rows-by-lines, accepted-has-rows.
 #[no_mangle]
 pub extern "C" fn ola_assemble_parts(
     source: &[u8],
@@ -71,6 +73,7 @@ pub extern "C" fn ola_assemble_parts(
 }
 
 // Assembles a source with a prophet list over a table of entries.
+// Promises: counts-answered, words-left, same-words, same-bytecode, words-ahead, names-are-word-counts, one-program, later-kept, rows-by-lines, accepted-has-rows.
 #[no_mangle]
 pub extern "C" fn ola_assemble(
     source: &[u8],
@@ -89,14 +92,16 @@ pub extern "C" fn ola_assemble(
 }
 
 // The part of a source that an entry's name is.
+// Promises: none; its contract is its whole outcome.
 #[no_mangle]
 pub extern "C" fn ola_label_name(source: &[u8], entry: LabelEntry) -> OlaName
-    ensures { λ r. ⌜ r ≡ namePart (now (source .entry)) (entry .start) (entry .length) ⌝ }
+    ensures { λ r. ⌜ r ≡ nameOf (namePart (now (source .entry)) (entry .start) (entry .length)) ⌝ }
 {
     ola_answers::name_out(source, entry.start, entry.length)
 }
 
 // Writes the bytecode text of words.
+// Promises: bytecode-left, same-bytecode.
 #[no_mangle]
 pub extern "C" fn ola_write_bytecode(words: &[u64], text: &mut [u8]) -> OlaWritten
     ensures { λ r. ⌜ r ≡ writtenOf (countOf (bytecodeWritten (now (words .entry)) (length (now (text .entry))))) ⌝ }
@@ -107,6 +112,7 @@ pub extern "C" fn ola_write_bytecode(words: &[u64], text: &mut [u8]) -> OlaWritt
 }
 
 // Whether a text opens as bytecode.
+// Promises: bytecode-opens, opened-run, opened-form.
 #[no_mangle]
 pub extern "C" fn ola_open(text: &[u8]) -> OlaOpened
     ensures { λ r. ⌜ r ≡ openedOf (acceptedOf (opened (now (text .entry)))) ⌝ }
@@ -115,6 +121,7 @@ pub extern "C" fn ola_open(text: &[u8]) -> OlaOpened
 }
 
 // The instruction from a line on, and the line reached.
+// Promises: run-reads, opened-run, opened-form, run-by-offsets.
 #[no_mangle]
 pub extern "C" fn ola_next(text: &[u8], line: usize) -> OlaStep
     ensures { λ r. ⌜ r ≡ lineStep (stepped (now (text .entry)) line) ⌝ }
@@ -125,6 +132,7 @@ pub extern "C" fn ola_next(text: &[u8], line: usize) -> OlaStep
 }
 
 // The instruction from an offset on, and the offset reached.
+// Promises: run-by-offsets, opened-run.
 #[no_mangle]
 pub extern "C" fn ola_next_at(text: &[u8], offset: usize) -> OlaStep
     ensures { λ r. ⌜ r ≡ offsetStep (steppedAt (now (text .entry)) offset) ⌝ }
@@ -135,6 +143,7 @@ pub extern "C" fn ola_next_at(text: &[u8], offset: usize) -> OlaStep
 }
 
 // The words of one instruction.
+// Promises: none; its contract is its whole outcome.
 #[no_mangle]
 pub extern "C" fn ola_encode(instruction: OlaInstruction) -> OlaEncoding
     ensures { λ r. ⌜ r ≡ encodingNamed (instructionIn instruction) ⌝ }
@@ -152,6 +161,7 @@ pub extern "C" fn ola_encode(instruction: OlaInstruction) -> OlaEncoding
 }
 
 // Writes the listing row of one instruction.
+// Promises: none; its contract is its whole outcome.
 #[no_mangle]
 pub extern "C" fn ola_listing_row(instruction: OlaInstruction, text: &mut [u8]) -> OlaWritten
     ensures { λ r. ⌜ r ≡ listed (instructionIn instruction) (length (now (text .entry))) ⌝ }

@@ -6,40 +6,57 @@ use mathlib.Core.Bool.{Bool, true, false, cond}
 use native.Mathlib.Omega.{arith}
 use native.Mathlib.Nat.{suc-min-suc}
 use borrow.Author.Needs.{needs}
-use borrow.Author.Tests.{le-leb, lt-leb, eq-eqb, ne-eqb}
-use lib.ListN.{length, getD, take, drop}
-use lib.Seq.{take-suc, take-all}
+use borrow.Author.Tests.{eq-eqb, ne-eqb}
+use denote.Ref.{RefT}
+use lib.ListN.{length, getD, take, drop, length-drop}
+use lib.Seq.{take-suc, take-all, length-take-le}
 use Rattle.text.specs.Bytes.{same}
-use Rattle.asm.specs.Parts.{nameAt}
+use Rattle.asm.specs.Parts.{namePart, bytesIn, nameAt}
+use Rattle.asm.proofs.SpanLaws.{span-past, span-long, span-within}
 use Rattle.relocate.specs.Columns.{entriesOf, entryNames, laterAddress, heldAddress}
 use Rattle.relocate.specs.declared.WordAddress.{WordAddress}
 use Rattle.relocate.specs.declared.LabelEntry.{LabelEntry}
 use Rattle.relocate.specs.declared.AddressFound.{AddressFound}
 use Rattle.relocate.specs.declared.AddressFound.the-variants.{At, Nothing}
+use Rattle.relocate_names.specs.References.{partOf}
 use Rattle.relocate_names.specs.Shortest.{shortestOf}
 
 -- ---- a name as a part of a source
 
 module _ (s : List ℕ) (start n : ℕ) where
-  -- a part that reaches past the end is empty
-  past : length s < start + n → [] ≡ nameAt s start n
-  unfolding nameAt
-  past h = rw (lt-leb (start + n) (length s) h)
-
-  -- so where it starts past the end
+  -- a part that starts past the end is empty
   pub name-past : length s < start → [] ≡ nameAt s start n
-  name-past h = past (omega arith)
+  unfolding nameAt
+  name-past h = ap (bytesIn s) (span-past s start n h)
 
-  -- and where it ends past it
+  -- and one that ends past it
   pub name-long : start ≤ length s → length s - start < n → [] ≡ nameAt s start n
-  name-long h k = past (omega arith)
+  unfolding nameAt
+  name-long h k = ap (bytesIn s) (span-long s start n h k)
 
   -- any other is the code's `&s[start..start + n]`
   pub name-within : start ≤ length s → n ≤ length s - start → take (start + n - start) (drop start s) ≡ nameAt s start n
   unfolding nameAt
-  name-within h k = let e : start + n - start ≡ n = omega arith in rw (e, le-leb (start + n) (length s) (omega arith))
+  name-within h k = let e : start + n - start ≡ n = omega arith in rw e (ap (bytesIn s) (span-within s start n h k))
 
-pub ruleset name-laws = (name-past, name-long, name-within, needs)
+module _ (s : RefT (List ℕ)) (start n : ℕ) where
+  -- the empty part is the code's `&s[0..0]`
+  pub part-past : length (s .now) < start → partOf s (record { start = 0; length = 0 }) ≡ partOf s (namePart (s .now) start n)
+  part-past h = ap (partOf s) (span-past (s .now) start n h)
+
+  pub part-long : start ≤ length (s .now) → length (s .now) - start < n → partOf s (record { start = 0; length = 0 }) ≡ partOf s (namePart (s .now) start n)
+  part-long h k = ap (partOf s) (span-long (s .now) start n h k)
+
+  -- any other points to the entry's start and is as long as the entry says
+  pub part-within : start ≤ length (s .now) → n ≤ length (s .now) - start
+      → partOf s (record { start = start; length = length (take (start + n - start) (drop start (s .now))) }) ≡ partOf s (namePart (s .now) start n)
+  part-within h k =
+      let d = length-drop start (s .now) in
+      let l = length-take-le (start + n - start) (drop start (s .now)) (omega arith) in
+      let e : length (take (start + n - start) (drop start (s .now))) ≡ n = omega arith in
+      ap (λ (m : ℕ). partOf s (record { start = start; length = m })) e ∙ ap (partOf s) (span-within (s .now) start n h k)
+
+pub ruleset name-laws = (name-past, name-long, name-within, part-past, part-long, part-within, needs)
 
 -- what was compared with a part that is the name was compared with the name
 pub name-same : (p q x : List ℕ) (r : Bool) → p ≡ q → r ≡ same p x → r ≡ same q x

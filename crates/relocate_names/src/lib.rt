@@ -6,12 +6,14 @@ use relocate::WordAddress;
 ghost use mathlib.Core.Path.{_≡_};
 ghost use Prim.Native.Nat.{min};
 ghost use Rattle.text.specs.Bytes.{same};
-ghost use Rattle.asm.specs.Parts.{nameAt};
+ghost use Rattle.asm.specs.Parts.{namePart, nameAt};
 ghost use Rattle.relocate.specs.Columns.{entriesOf, heldAddress};
+ghost use Rattle.relocate_names.specs.References.{referenceOf, partOf};
 ghost use Rattle.relocate_names.specs.Shortest.{shortestOf};
 
-// The part of a source that starts at a place and has a length, an empty part where it reaches past the source's end.
+// The part of a source that starts at a place and has a length, the empty part at the source's start where it reaches past the source's end.
 pub fn name_at<'a>(source: &'a [u8], start: usize, length: usize) -> &'a [u8]
+    ensures { λ r. ⌜ referenceOf r ≡ partOf (source .entry) (namePart (now (source .entry)) start length) ⌝ }
     ensures { λ r. ⌜ now r ≡ nameAt (now (source .entry)) start length ⌝ }
 {
     if source.len() < start {
@@ -26,6 +28,7 @@ pub fn name_at<'a>(source: &'a [u8], start: usize, length: usize) -> &'a [u8]
 
 // The name of a label table's entry, without its colon.
 pub fn label_name<'a>(source: &'a [u8], entry: LabelEntry) -> &'a [u8]
+    ensures { λ r. ⌜ referenceOf r ≡ partOf (source .entry) (namePart (now (source .entry)) (entry .start) (entry .length)) ⌝ }
     ensures { λ r. ⌜ now r ≡ nameAt (now (source .entry)) (entry .start) (entry .length) ⌝ }
 {
     let start = entry.start;

@@ -82,7 +82,7 @@ loop-less : tie.Need-loop-less Inv-loop μ-loop
 loop-less c = search link-laws
 
 loop-again : tie.Need-loop-again Inv-loop μ-loop
-loop-again c = (search link-laws, search link-laws, link-more _ _ _ _ _ _ _ (c .before .before .before .before .before .before .before .before .before .before .before .shortest .ensures) _ _ _ (c .before .before .before .before .before .before .before .loop .inv .2) _ _ _ (c .before .before .before .before .before .before .loop-test .taken) (c .before .before .before .name-at .ensures) (c .before .before .bucket-of .ensures .0) (c .as-cell .ensures))
+loop-again c = (search link-laws, search link-laws, link-more _ _ _ _ _ _ _ (c .before .before .before .before .before .before .before .before .before .before .before .shortest .ensures) _ _ _ (c .before .before .before .before .before .before .before .loop .inv .2) _ _ _ (c .before .before .before .before .before .before .loop-test .taken) (c .before .before .before .name-at .ensures .1) (c .before .before .bucket-of .ensures .0) (c .as-cell .ensures))
 
 same-length : tie.Need-same-length Inv-loop μ-loop
 same-length c = search link-laws

@@ -13,7 +13,7 @@ part-result-end : tie.Need-part-result-end
 part-result-end c = search name-laws
 
 returns : tie.Need-returns
-returns c = search name-laws
+returns c = (search name-laws, search name-laws)
 
 sub-if2 : tie.Need-sub-if2
 sub-if2 c = search name-laws
@@ -28,7 +28,7 @@ part-result-end-2 : tie.Need-part-result-end-2
 part-result-end-2 c = search name-laws
 
 returns-2 : tie.Need-returns-2
-returns-2 c = search name-laws
+returns-2 c = (search name-laws, search name-laws)
 
 add-end : tie.Need-add-end
 add-end c = search name-laws
@@ -43,7 +43,7 @@ part-result-end-3 : tie.Need-part-result-end-3
 part-result-end-3 c = search name-laws
 
 returns-3 : tie.Need-returns-3
-returns-3 c = search name-laws
+returns-3 c = (search name-laws, search name-laws)
 
 pub name-at-spec : {M : Type 1} → statement M
 name-at-spec =
