@@ -228,6 +228,12 @@ TwoContracts published s t text other =
 abbrev movAccepted : OlaRegister → ℕ → Accepted
 movAccepted r w = record { labels = 1; program = made MOV Empty Empty (RegisterOperand r) ∷ []; words = w ∷ []; hosts = [] }
 
+abbrev pcAccepted : Accepted
+pcAccepted = movAccepted R1 0x0000000208000000
+
+abbrev otherAccepted : Accepted
+otherAccepted = movAccepted R2 0x0000000408000000
+
 abbrev movPc : List ℕ
 movPc = bytes "main:\nmov r1 pc"
 
@@ -237,56 +243,64 @@ movPsp = bytes "main:\nmov r1 psp"
 abbrev movOther : List ℕ
 movOther = bytes "main:\nmov r2 pc"
 
-pc-accepted : assembled movPc [] plenty ≡ ok (movAccepted R1 0x0000000208000000)
+pc-accepted : assembled movPc [] plenty ≡ ok pcAccepted
 unfolding isSpace isDigit isLetter isWord same total scan all parts _>>=_ _>>_ refuseIf refuseAt digitValue valueFrom numeral operations firstOperation registers registerOf specialOf signed numberOf placed filledParts piecesFrom linePieces rowPieces shapes firstMatch arranged operandsOf arrangedIf isCallRow isPairRow labelRow rowOf nameAt cutAtCalls scopesThat rowsOfScopes instructions labelRows holder withoutLastEmpty labelsAfterHead listedLabels hostsFrom firstAbove127 readRows rowsRead sortedOf tabled hostsOf programWords general memory canonicalBy canonicalFrom firstMisplaced encodedRows assembled
 pc-accepted = refl
 
-psp-accepted : assembled movPsp [] plenty ≡ ok (movAccepted R1 0x0000000208000000)
+psp-accepted : assembled movPsp [] plenty ≡ ok pcAccepted
 unfolding isSpace isDigit isLetter isWord same total scan all parts _>>=_ _>>_ refuseIf refuseAt digitValue valueFrom numeral operations firstOperation registers registerOf specialOf signed numberOf placed filledParts piecesFrom linePieces rowPieces shapes firstMatch arranged operandsOf arrangedIf isCallRow isPairRow labelRow rowOf nameAt cutAtCalls scopesThat rowsOfScopes instructions labelRows holder withoutLastEmpty labelsAfterHead listedLabels hostsFrom firstAbove127 readRows rowsRead sortedOf tabled hostsOf programWords general memory canonicalBy canonicalFrom firstMisplaced encodedRows assembled
 psp-accepted = refl
 
-other-accepted : assembled movOther [] plenty ≡ ok (movAccepted R2 0x0000000408000000)
+other-accepted : assembled movOther [] plenty ≡ ok otherAccepted
 unfolding isSpace isDigit isLetter isWord same total scan all parts _>>=_ _>>_ refuseIf refuseAt digitValue valueFrom numeral operations firstOperation registers registerOf specialOf signed numberOf placed filledParts piecesFrom linePieces rowPieces shapes firstMatch arranged operandsOf arrangedIf isCallRow isPairRow labelRow rowOf nameAt cutAtCalls scopesThat rowsOfScopes instructions labelRows holder withoutLastEmpty labelsAfterHead listedLabels hostsFrom firstAbove127 readRows rowsRead sortedOf tabled hostsOf programWords general memory canonicalBy canonicalFrom firstMisplaced encodedRows assembled
 other-accepted = refl
 
-abbrev pcAccepted : Accepted
-pcAccepted = movAccepted R1 0x0000000208000000
+abbrev pc-and-psp : (published : List ℕ → List ℕ) → Reviewed published movPc movPsp (published (pcAccepted .words)) (published (pcAccepted .words))
+pc-and-psp published = record {
+  first = pcAccepted;
+  second = pcAccepted;
+  first-accepted = pc-accepted;
+  second-accepted = psp-accepted;
+  first-published = refl;
+  second-published = refl;
+}
 
-abbrev otherAccepted : Accepted
-otherAccepted = movAccepted R2 0x0000000408000000
+abbrev pc-and-other : (published : List ℕ → List ℕ) → Reviewed published movPc movOther (published (pcAccepted .words)) (published (otherAccepted .words))
+pc-and-other published = record {
+  first = pcAccepted;
+  second = otherAccepted;
+  first-accepted = pc-accepted;
+  second-accepted = other-accepted;
+  first-published = refl;
+  second-published = refl;
+}
 
--- `mov r1 pc` and `mov r1 psp` have one word, so they are one contract
+-- `mov r1 pc` and `mov r1 psp` have one word, so they are one contract,
 pc-is-psp : OneContract asWords movPc movPsp (0x0000000208000000 ∷ [])
-pc-is-psp = (
-  record { first = pcAccepted; second = pcAccepted; first-accepted = pc-accepted; second-accepted = psp-accepted; first-published = refl; second-published = refl },
-  same-words movPc movPsp [] [] plenty plenty pcAccepted pcAccepted pc-accepted psp-accepted .0 refl,
-)
+pc-is-psp = (pc-and-psp asWords, same-words movPc movPsp [] [] plenty plenty pcAccepted pcAccepted pc-accepted psp-accepted .0 refl)
 
--- and one line of bytecode
+-- and one text of bytecode
 pc-is-psp-bytecode : OneContract bytecodeOf movPc movPsp (bytes "0x0000000208000000")
 unfolding grouped linesOfGroups joined digitsOf digitCount
-pc-is-psp-bytecode = (
-  record { first = pcAccepted; second = pcAccepted; first-accepted = pc-accepted; second-accepted = psp-accepted; first-published = refl; second-published = refl },
-  same-bytecode movPc movPsp [] [] plenty plenty pcAccepted pcAccepted pc-accepted psp-accepted .0 refl,
-)
+pc-is-psp-bytecode = (pc-and-psp bytecodeOf, same-bytecode movPc movPsp [] [] plenty plenty pcAccepted pcAccepted pc-accepted psp-accepted .0 refl)
 
--- `mov r1 pc` and `mov r2 pc` have different words, so they are two
+-- `mov r1 pc` and `mov r2 pc` have different words, so they are two,
 pc-is-not-other : TwoContracts asWords movPc movOther (0x0000000208000000 ∷ []) (0x0000000408000000 ∷ [])
 pc-is-not-other = (
   differ,
-  record { first = pcAccepted; second = otherAccepted; first-accepted = pc-accepted; second-accepted = other-accepted; first-published = refl; second-published = refl },
+  pc-and-other asWords,
   λ e. differ (same-words movPc movOther [] [] plenty plenty pcAccepted otherAccepted pc-accepted other-accepted .1 e),
 )
   where
     differ : pcAccepted .words ≡ otherAccepted .words → ⊥
     differ e = omega (arith, ap (λ (ws : List ℕ). getD ws 0 0) e)
 
--- and different bytecode
+-- and different texts of bytecode
 pc-is-not-other-bytecode : TwoContracts bytecodeOf movPc movOther (bytes "0x0000000208000000") (bytes "0x0000000408000000")
 unfolding grouped linesOfGroups joined digitsOf digitCount
 pc-is-not-other-bytecode = (
   differ,
-  record { first = pcAccepted; second = otherAccepted; first-accepted = pc-accepted; second-accepted = other-accepted; first-published = refl; second-published = refl },
+  pc-and-other bytecodeOf,
   λ e. differ (same-bytecode movPc movOther [] [] plenty plenty pcAccepted otherAccepted pc-accepted other-accepted .1 e),
 )
   where
