@@ -6,3 +6,4 @@ pub mod JoinLaws
 pub mod StepLaws
 pub mod PlaceLaws
 pub mod MoveLaws
+pub mod LineLaws

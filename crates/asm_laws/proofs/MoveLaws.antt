@@ -32,7 +32,7 @@ use Rattle.asm_laws.proofs.PlaceLaws.{movedPart, movedRow, movedRows, a
 -- ---- the pieces of two texts
 
 -- the parts of two texts with a byte between them that parts
-parts-joined : (p : ℕ → Bool) (a : List ℕ) (x : ℕ) (b : List ℕ) → p x ≡ true → parts p (a ++ x ∷ b) ≡ parts p a ++ parts p b
+pub parts-joined : (p : ℕ → Bool) (a : List ℕ) (x : ℕ) (b : List ℕ) → p x ≡ true → parts p (a ++ x ∷ b) ≡ parts p a ++ parts p b
 unfolding parts
 parts-joined p [] x b e = rw e
 parts-joined p (y ∷ a) x b e = rw (parts-joined p a x b e, q .2) (go (p y) (q .0) (q .1))

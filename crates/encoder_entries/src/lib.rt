@@ -7,7 +7,8 @@ ghost use Rattle.relocate.specs.Columns.{tableLeft};
 ghost use Rattle.encoder.specs.Assemble.{numbered, assembled, assembledTotals, wordsLeft, hostsLeft};
 
 // Assembles a source with a prophet list: the label table, the words and the hosts.
-// Promises: counts-answered, words-left, same-words, same-bytecode, words-ahead, names-are-word-counts.
+// Promises: counts-answered, words-left, same-words, same-bytecode, one-program, words-ahead, accepted-has-rows, names-are-word-counts, later-kept,
+// kept-counted, rows-by-lines, same-lines.
 pub fn assemble(
     source: &[u8],
     prophets: &[u8],

@@ -1,14 +1,16 @@
--- The promises applied to document 01's printing source, and the first of them to two pairs of sources.
-use Prim.Native.Nat.{ℕ}
-use mathlib.Core.Path.{_≡_, refl, sym, ap, _∙_}
-use mathlib.Core.List.{List, [], _∷_}
+-- The promises applied: to document 01's printing source, to two prophets on one host, to carriage returns, and to pairs of sources that are one
+-- contract and that are two.
+use Prim.Native.Nat.{ℕ, zero, suc, _<_}
+use mathlib.Core.Path.{_≡_, refl, sym, ap, subst, _∙_}
+use mathlib.Core.List.{List, [], _∷_, map, zipWith}
 use mathlib.Core.Bool.{Bool, true, false}
-use mathlib.Core.Option.{some}
+use mathlib.Core.Option.{some, Option·some-injective, Option·none-ne-some}
 use native.Mathlib.Omega.{arith}
-use lib.ListN.{length, take, replicate}
+use lib.ListN.{length, take, getD, getElem?, replicate}
 use Rattle.text.specs.Bytes.{bytes, isSpace, isDigit, isLetter, isWord, same}
 use Rattle.text.specs.Lists.{total}
 use Rattle.text.specs.Scan.{scan, all, parts}
+use Rattle.text.specs.Lines.{lines, ended}
 use Rattle.text.specs.Answer.{Answer, ok, refused, _>>=_, _>>_, refuseIf, refuseAt}
 use Rattle.text_read.specs.Numerals.{digitValue, valueFrom, numeral}
 use Rattle.text_write.specs.Digits.{digitsOf, digitCount}
@@ -20,29 +22,31 @@ use Rattle.vm_hardware.specs.declared.OlaRegister.the-variants.{R1, R2}
 use Rattle.vm_hardware.specs.declared.Place.the-variants.{Op1}
 use Rattle.vm_operands.specs.Numbers.{signed, numberOf}
 use Rattle.vm_operands.specs.declared.OlaOperand.the-variants.{Empty, RegisterOperand}
-use Rattle.asm.specs.Parts.{placed, filledParts, piecesFrom, linePieces, rowPieces, nameAt}
+use Rattle.asm.specs.Parts.{placed, filledParts, piecesFrom, linePieces, rowPieces, sourcePieces, nameAt}
 use Rattle.asm.specs.Operands.{shapes, firstMatch}
 use Rattle.asm.specs.Rows.{arranged, operandsOf, arrangedIf, isCallRow, isPairRow, labelRow, rowOf, instructions, readRows}
 use Rattle.asm.specs.declared.OlaAsmOperand.the-variants.{Empty as NoOperand, ImmediateOperand, RegisterOperand as ARegister, Identifier}
 use Rattle.asm.specs.declared.OlaAsmInstruction.{OlaAsmInstruction}
 use Rattle.asm.specs.declared.AsmRow.{AsmRow}
 use Rattle.asm.specs.declared.AsmRow.the-variants.{Instruction, LabelCall, LabelProphet}
+use Rattle.asm_laws.proofs.LineLaws.{textOf}
 use Rattle.relocate.specs.Scopes.{cutAtCalls, scopesThat, rowsOfScopes}
-use Rattle.relocate.specs.Labels.{LabelRow, callKind, labelRows, holder}
-use Rattle.relocate.specs.Prophets.{withoutLastEmpty, labelsAfterHead, listedLabels, hostsFrom, keptFrom}
+use Rattle.relocate.specs.Labels.{callKind, labelRows, holder}
+use Rattle.relocate.specs.Prophets.{withoutLastEmpty, labelsAfterHead, listedLabels, hostsFrom, isIn, keptFrom}
 use Rattle.relocate.specs.Relocate.{firstAbove127, rowsRead, sortedOf, tabled, hostsOf}
+use Rattle.relocate_laws.proofs.KeptLaws.{Ascending}
 use Rattle.program.specs.Instructions.{made, aNumber}
 use Rattle.program.specs.Words.{programWords, wordsBefore}
 use Rattle.program.specs.Groups.{grouped}
 use Rattle.program.specs.Bytecode.{linesOfGroups, joined, bytecodeOf, bytecodeWritten, textLeft}
 use Rattle.program.specs.declared.BinaryInstruction.{BinaryInstruction}
-use Rattle.encoder.specs.Canonical.{namesOf, holderOf, general, memory, canonicalBy, canonicalFrom, firstMisplaced}
-use Rattle.encoder.specs.Assemble.{Room, Accepted, encodedRows, assembled, assembledTotals, wordsLeft}
+use Rattle.encoder.specs.Canonical.{namesOf, general, memory, canonicalBy, canonicalFrom, firstMisplaced}
+use Rattle.encoder.specs.Assemble.{Room, Accepted, encodedRows, assembled, totalsOf, assembledTotals, wordsLeft}
 use Rattle.decoder.specs.Open.{opened, run}
 use Rattle.decoder.specs.Steps.{runAt, nthCall}
-use Rattle.promises.specs.Terms.{SameProgram, allClean}
+use Rattle.promises.specs.Terms.{SameProgram, allClean, contentAt, HoldsCount, IsKept}
 use Rattle.promises.specs.Starred.{plenty, printingSource}
-use Rattle.promises.specs.Promises.{counts-answered, words-left, bytecode-left, run-by-offsets, nth-reads, same-words, same-bytecode, bytecode-opens, run-reads, words-ahead, names-are-word-counts}
+use Rattle.promises.specs.Promises.{counts-answered, words-left, bytecode-left, run-by-offsets, nth-reads, same-words, same-bytecode, one-program, bytecode-opens, run-reads, words-ahead, accepted-has-rows, names-are-word-counts, later-kept, kept-counted, rows-by-lines, same-lines}
 
 -- ---- the printing source
 
@@ -98,14 +102,6 @@ printing-text = bytecode-left printingSource [] plenty printingAccepted printing
 printing-opens : opened (bytecodeOf (printingAccepted .words)) ≡ ok printingProgram
 printing-opens = bytecode-opens printingSource [] plenty printingAccepted printing-accepted
 
--- the words of the source are its own program's, and no other's
-printing-same : SameProgram printingProgram printingProgram
-printing-same = same-words printingSource printingSource [] [] plenty plenty printingAccepted printingAccepted printing-accepted printing-accepted .0 refl
-
-printing-same-bytecode : SameProgram printingProgram printingProgram
-printing-same-bytecode =
-    same-bytecode printingSource printingSource [] [] plenty plenty printingAccepted printingAccepted printing-accepted printing-accepted .0 refl
-
 -- its rows, main's scope first
 abbrev printingRows : List AsmRow
 printingRows =
@@ -126,20 +122,117 @@ printing-clean : allClean (instructions printingRows) ≡ true
 unfolding allClean instructions
 printing-clean = refl
 
+-- it has rows, four of them instructions
+printing-has-rows : (rows : List AsmRow) × (sortedOf printingSource ≡ ok rows) × (length (instructions rows) ≡ 4)
+printing-has-rows = accepted-has-rows printingSource [] plenty printingAccepted printing-accepted
+
 -- `call f` holds the count of the words before f's `ret`, which is 5
-printing-call : (l : LabelRow) × (holderOf (namesOf printingSource printingRows) callKind 28 1 ≡ some l) × (aNumber 5 ≡ aNumber (wordsBefore printingProgram (l .marks)))
+printing-call : HoldsCount (namesOf printingSource printingRows) printingProgram callKind 28 1 (aNumber 5)
 unfolding instructions
 printing-call =
+    let x =
     names-are-word-counts printingSource [] plenty printingAccepted printing-accepted printingRows printing-sorted printing-clean
-    1 (record { opcode = CALL; op0 = NoOperand; op1 = Identifier 28 1; dst = NoOperand }) (made CALL Empty (aNumber 5) Empty) refl refl Op1 28 1 .0 refl
+    1 (record { opcode = CALL; op0 = NoOperand; op1 = Identifier 28 1; dst = NoOperand }) refl in
+    let e : made CALL Empty (aNumber 5) Empty ≡ x .0 = Option·some-injective _ _ (x .1) in
+    subst (λ (b : BinaryInstruction). HoldsCount (namesOf printingSource printingRows) printingProgram callKind 28 1 (contentAt Op1 b)) (sym e) (x .2 Op1 28 1 .0 refl)
 
 printing-words-ahead : length (programWords (take 3 printingProgram)) ≡ wordsBefore printingProgram 3
 printing-words-ahead = words-ahead printingSource [] plenty printingAccepted printing-accepted 3
 
--- ---- two pairs
+-- ---- two prophets on one host
+
+-- both prophets stand after the second `ret`, whose address is 1
+abbrev prophetsSource : List ℕ
+prophetsSource = bytes "main:\nret\nret\n.PROPHET0_0:\n.PROPHET0_1:\nend"
+
+abbrev prophetsList : List ℕ
+prophetsList = bytes "label\n.PROPHET0_0\n.PROPHET0_1"
+
+abbrev prophetsAccepted : Accepted
+prophetsAccepted = record {
+  labels = 3;
+  program = made RET Empty Empty Empty ∷ made RET Empty Empty Empty ∷ made END Empty Empty Empty ∷ [];
+  words = 0x0000000000800000 ∷ 0x0000000000800000 ∷ 0x0000000000100000 ∷ [];
+  hosts = 1 ∷ 1 ∷ [];
+}
+
+prophets-accepted : assembled prophetsSource prophetsList plenty ≡ ok prophetsAccepted
+unfolding isSpace isDigit isLetter isWord same total scan all parts _>>=_ _>>_ refuseIf refuseAt digitValue valueFrom numeral operations firstOperation registers registerOf specialOf signed numberOf placed filledParts piecesFrom linePieces rowPieces shapes firstMatch arranged operandsOf arrangedIf isCallRow isPairRow labelRow rowOf nameAt cutAtCalls scopesThat rowsOfScopes instructions labelRows holder withoutLastEmpty labelsAfterHead listedLabels hostsFrom firstAbove127 readRows rowsRead sortedOf tabled hostsOf programWords general memory canonicalBy canonicalFrom firstMisplaced encodedRows assembled
+prophets-accepted = refl
+
+-- whatever list and room it is accepted with, its words are these three
+prophets-words : (others : List ℕ) (space : Room) (b : Accepted) → assembled prophetsSource others space ≡ ok b
+    → 0x0000000000800000 ∷ 0x0000000000800000 ∷ 0x0000000000100000 ∷ [] ≡ b .words
+prophets-words others space b k = one-program prophetsSource prophetsList others plenty space prophetsAccepted b prophets-accepted k .1
+
+-- the second of the list is kept,
+prophets-second : IsKept (prophetsAccepted .hosts) 1 1
+prophets-second = later-kept prophetsSource prophetsList plenty prophetsAccepted prophets-accepted 1 1 .1 (refl, none-after)
+  where
+    none-after : (j : ℕ) → 1 < j → getElem? (prophetsAccepted .hosts) j ≡ some 1 → ⊥
+    none-after zero l e = omega arith
+    none-after (suc zero) l e = omega arith
+    none-after (suc (suc j)) l e = Option·none-ne-some 1 e
+
+-- the first is not,
+prophets-first : IsKept (prophetsAccepted .hosts) 0 1 → ⊥
+prophets-first k = later-kept prophetsSource prophetsList plenty prophetsAccepted prophets-accepted 0 1 .0 k .1 1 (omega arith) refl
+
+-- and one is counted
+prophets-counted : (totalsOf prophetsAccepted .kept ≡ 1) × Ascending (1 ∷ [])
+unfolding isIn keptFrom
+prophets-counted = kept-counted prophetsSource prophetsList plenty prophetsAccepted prophets-accepted
+
+-- ---- line endings
+
+abbrev returnSource : List ℕ
+returnSource = bytes "main:\r\nend\r\n"
+
+-- its lines have no carriage return, and start where the text says
+return-lines : bytes "main:" ∷ bytes "end" ∷ [] ≡ lines returnSource
+unfolding parts placed lines ended zipWith
+return-lines = rows-by-lines returnSource .1
+
+return-rows : sourcePieces returnSource ≡ rowPieces (record { start = 0; text = bytes "main:" } ∷ record { start = 7; text = bytes "end" } ∷ [])
+unfolding parts placed lines ended zipWith
+return-rows = rows-by-lines returnSource .0
+
+-- so it has the rows of the source with line feeds alone, but for the places
+return-same : map (map textOf) (sourcePieces returnSource) ≡ map (map textOf) (sourcePieces (bytes "main:\nend\n"))
+unfolding parts lines ended
+return-same = same-lines returnSource (bytes "main:\nend\n") refl
+
+-- ---- one contract and two
+
+-- two sources that are accepted, and what is published of the words of each: the words themselves, or their bytecode
+record Reviewed (published : List ℕ → List ℕ) (s t text other : List ℕ) : Type 0 where
+  first : Accepted
+  second : Accepted
+  first-accepted : assembled s [] plenty ≡ ok first
+  second-accepted : assembled t [] plenty ≡ ok second
+  first-published : published (first .words) ≡ text
+  second-published : published (second .words) ≡ other
+
+abbrev asWords : List ℕ → List ℕ
+asWords ws = ws
+
+-- the same is published, and they are one canonical program
+abbrev OneContract : (List ℕ → List ℕ) → List ℕ → List ℕ → List ℕ → Type 0
+OneContract published s t text = (r : Reviewed published s t text text) × SameProgram (r .first .program) (r .second .program)
+
+-- something else is published, and they are not
+abbrev TwoContracts : (List ℕ → List ℕ) → List ℕ → List ℕ → List ℕ → List ℕ → Type 0
+TwoContracts published s t text other =
+    (text ≡ other → ⊥) × (r : Reviewed published s t text other) × (SameProgram (r .first .program) (r .second .program) → ⊥)
 
 abbrev movAccepted : OlaRegister → ℕ → Accepted
 movAccepted r w = record { labels = 1; program = made MOV Empty Empty (RegisterOperand r) ∷ []; words = w ∷ []; hosts = [] }
+
+abbrev pcAccepted : Accepted
+pcAccepted = movAccepted R1 0x0000000208000000
+
+abbrev otherAccepted : Accepted
+otherAccepted = movAccepted R2 0x0000000408000000
 
 abbrev movPc : List ℕ
 movPc = bytes "main:\nmov r1 pc"
@@ -150,30 +243,66 @@ movPsp = bytes "main:\nmov r1 psp"
 abbrev movOther : List ℕ
 movOther = bytes "main:\nmov r2 pc"
 
-pc-accepted : assembled movPc [] plenty ≡ ok (movAccepted R1 0x0000000208000000)
+pc-accepted : assembled movPc [] plenty ≡ ok pcAccepted
 unfolding isSpace isDigit isLetter isWord same total scan all parts _>>=_ _>>_ refuseIf refuseAt digitValue valueFrom numeral operations firstOperation registers registerOf specialOf signed numberOf placed filledParts piecesFrom linePieces rowPieces shapes firstMatch arranged operandsOf arrangedIf isCallRow isPairRow labelRow rowOf nameAt cutAtCalls scopesThat rowsOfScopes instructions labelRows holder withoutLastEmpty labelsAfterHead listedLabels hostsFrom firstAbove127 readRows rowsRead sortedOf tabled hostsOf programWords general memory canonicalBy canonicalFrom firstMisplaced encodedRows assembled
 pc-accepted = refl
 
-psp-accepted : assembled movPsp [] plenty ≡ ok (movAccepted R1 0x0000000208000000)
+psp-accepted : assembled movPsp [] plenty ≡ ok pcAccepted
 unfolding isSpace isDigit isLetter isWord same total scan all parts _>>=_ _>>_ refuseIf refuseAt digitValue valueFrom numeral operations firstOperation registers registerOf specialOf signed numberOf placed filledParts piecesFrom linePieces rowPieces shapes firstMatch arranged operandsOf arrangedIf isCallRow isPairRow labelRow rowOf nameAt cutAtCalls scopesThat rowsOfScopes instructions labelRows holder withoutLastEmpty labelsAfterHead listedLabels hostsFrom firstAbove127 readRows rowsRead sortedOf tabled hostsOf programWords general memory canonicalBy canonicalFrom firstMisplaced encodedRows assembled
 psp-accepted = refl
 
-other-accepted : assembled movOther [] plenty ≡ ok (movAccepted R2 0x0000000408000000)
+other-accepted : assembled movOther [] plenty ≡ ok otherAccepted
 unfolding isSpace isDigit isLetter isWord same total scan all parts _>>=_ _>>_ refuseIf refuseAt digitValue valueFrom numeral operations firstOperation registers registerOf specialOf signed numberOf placed filledParts piecesFrom linePieces rowPieces shapes firstMatch arranged operandsOf arrangedIf isCallRow isPairRow labelRow rowOf nameAt cutAtCalls scopesThat rowsOfScopes instructions labelRows holder withoutLastEmpty labelsAfterHead listedLabels hostsFrom firstAbove127 readRows rowsRead sortedOf tabled hostsOf programWords general memory canonicalBy canonicalFrom firstMisplaced encodedRows assembled
 other-accepted = refl
 
--- `mov r1 pc` and `mov r1 psp` have one word, so they are one canonical program
-pc-is-psp : SameProgram (movAccepted R1 0x0000000208000000 .program) (movAccepted R1 0x0000000208000000 .program)
-pc-is-psp =
-    same-words movPc movPsp [] [] plenty plenty (movAccepted R1 0x0000000208000000) (movAccepted R1 0x0000000208000000) pc-accepted psp-accepted .0 refl
+abbrev pc-and-psp : (published : List ℕ → List ℕ) → Reviewed published movPc movPsp (published (pcAccepted .words)) (published (pcAccepted .words))
+pc-and-psp published = record {
+  first = pcAccepted;
+  second = pcAccepted;
+  first-accepted = pc-accepted;
+  second-accepted = psp-accepted;
+  first-published = refl;
+  second-published = refl;
+}
 
-headOf : List ℕ → ℕ
-headOf [] = 0
-headOf (w ∷ ws) = w
+abbrev pc-and-other : (published : List ℕ → List ℕ) → Reviewed published movPc movOther (published (pcAccepted .words)) (published (otherAccepted .words))
+pc-and-other published = record {
+  first = pcAccepted;
+  second = otherAccepted;
+  first-accepted = pc-accepted;
+  second-accepted = other-accepted;
+  first-published = refl;
+  second-published = refl;
+}
 
--- `mov r1 pc` and `mov r2 pc` have different words, so they are not
-pc-is-not-other : SameProgram (movAccepted R1 0x0000000208000000 .program) (movAccepted R2 0x0000000408000000 .program) → ⊥
-unfolding headOf
-pc-is-not-other e =
-    let w = same-words movPc movOther [] [] plenty plenty (movAccepted R1 0x0000000208000000) (movAccepted R2 0x0000000408000000) pc-accepted other-accepted .1 e in
-    omega (arith, ap headOf w)
+-- `mov r1 pc` and `mov r1 psp` have one word, so they are one contract,
+pc-is-psp : OneContract asWords movPc movPsp (0x0000000208000000 ∷ [])
+pc-is-psp = (pc-and-psp asWords, same-words movPc movPsp [] [] plenty plenty pcAccepted pcAccepted pc-accepted psp-accepted .0 refl)
+
+-- and one text of bytecode
+pc-is-psp-bytecode : OneContract bytecodeOf movPc movPsp (bytes "0x0000000208000000")
+unfolding grouped linesOfGroups joined digitsOf digitCount
+pc-is-psp-bytecode = (pc-and-psp bytecodeOf, same-bytecode movPc movPsp [] [] plenty plenty pcAccepted pcAccepted pc-accepted psp-accepted .0 refl)
+
+-- `mov r1 pc` and `mov r2 pc` have different words, so they are two,
+pc-is-not-other : TwoContracts asWords movPc movOther (0x0000000208000000 ∷ []) (0x0000000408000000 ∷ [])
+pc-is-not-other = (
+  differ,
+  pc-and-other asWords,
+  λ e. differ (same-words movPc movOther [] [] plenty plenty pcAccepted otherAccepted pc-accepted other-accepted .1 e),
+)
+  where
+    differ : pcAccepted .words ≡ otherAccepted .words → ⊥
+    differ e = omega (arith, ap (λ (ws : List ℕ). getD ws 0 0) e)
+
+-- and different texts of bytecode
+pc-is-not-other-bytecode : TwoContracts bytecodeOf movPc movOther (bytes "0x0000000208000000") (bytes "0x0000000408000000")
+unfolding grouped linesOfGroups joined digitsOf digitCount
+pc-is-not-other-bytecode = (
+  differ,
+  pc-and-other bytecodeOf,
+  λ e. differ (same-bytecode movPc movOther [] [] plenty plenty pcAccepted otherAccepted pc-accepted other-accepted .1 e),
+)
+  where
+    differ : bytes "0x0000000208000000" ≡ bytes "0x0000000408000000" → ⊥
+    differ e = omega (arith, ap (λ (text : List ℕ). getD text 9 0) e)

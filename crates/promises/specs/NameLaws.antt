@@ -5,7 +5,7 @@ use mathlib.Core.List.{List, _∷_, map}
 use mathlib.Core.Bool.{Bool, true, false, not, _&&_, _||_, cond, true≢false, false≢true}
 use mathlib.Core.Option.{Option, none, some, Option·some-injective, Option·none-ne-some}
 use native.Mathlib.Omega.{arith}
-use lib.ListN.{take, getElem?}
+use lib.ListN.{length, take, getElem?}
 use Rattle.text.specs.Lists.{total}
 use Rattle.text.specs.Answer.{ok}
 use Rattle.text.proofs.All.{All, none-left, one-more}
@@ -27,7 +27,7 @@ use Rattle.program.specs.declared.BinaryInstruction.{BinaryInstruction}
 use Rattle.encoder.specs.Canonical.{Names, namesOf, holderOf, lookedUp, plain, canonicalOf, canonicalProgram, firstMisplaced}
 use Rattle.encoder.proofs.Origins.{isMemoryRow, memory-rows, Resolved, Anchored, by-offset, by-factor, Origin, ordinary, load, store, canonical-origin}
 use Rattle.encoder.proofs.AcceptedLaws.{Pairs, no-pair, one-pair, canonical-pairs, WellPlaced, well-placed, looked-up}
-use Rattle.promises.specs.Terms.{isBracketed, isClean, allClean, operandAt, contentAt}
+use Rattle.promises.specs.Terms.{isBracketed, isClean, allClean, operandAt, contentAt, HoldsCount}
 
 -- ---- counted and emitted lengths
 
@@ -146,22 +146,22 @@ name-found names k i b (load p a) s place x e t =
 name-found names k i b (store p a) s place x e t =
     absurd (true≢false (sym t ∙ sym (ap isLookedUp e) ∙ store-nameless i b (s .store p) a place))
 
--- the row at an index and the instruction at that index
+-- as many instructions as rows
+pub pairs-length : (names : Names) (k : ℕ) (is : List OlaAsmInstruction) (bs : List BinaryInstruction) → Pairs names k is bs → length is ≡ length bs
+pairs-length names k is bs no-pair = refl
+pairs-length names k is bs (one-pair {is = js} {bs = cs} e p) = ap suc (pairs-length names (suc k) js cs p)
+
+-- the instruction at the index of a row, and how it was made
 pairs-at : (names : Names) (k : ℕ) (is : List OlaAsmInstruction) (bs : List BinaryInstruction) → Pairs names k is bs → (n : ℕ) (i : OlaAsmInstruction)
-    (b : BinaryInstruction) → getElem? is n ≡ some i → getElem? bs n ≡ some b → (m : ℕ) × (canonicalOf names m i ≡ ok b)
-pairs-at names k is bs no-pair n i b g h = absurd (Option·none-ne-some i g)
-pairs-at names k is bs (one-pair {i = j} {b = c} e p) zero i b g h =
-    (k, sym (ap (canonicalOf names k) (Option·some-injective j i g)) ∙ e ∙ ap ok (Option·some-injective c b h))
-pairs-at names k is bs (one-pair {is = js} {bs = cs} e p) (suc n) i b g h = pairs-at names (suc k) js cs p n i b g h
+    → getElem? is n ≡ some i → (b : BinaryInstruction) × (getElem? bs n ≡ some b) × (m : ℕ) × (canonicalOf names m i ≡ ok b)
+pairs-at names k is bs no-pair n i g = absurd (Option·none-ne-some i g)
+pairs-at names k is bs (one-pair {i = j} {b = c} e p) zero i g = (c, refl, k, sym (ap (canonicalOf names k) (Option·some-injective j i g)) ∙ e)
+pairs-at names k is bs (one-pair {is = js} {bs = cs} e p) (suc n) i g = pairs-at names (suc k) js cs p n i g
 
 all-at : {P : OlaAsmInstruction → Type 0} (is : List OlaAsmInstruction) → All P is → (n : ℕ) (i : OlaAsmInstruction) → getElem? is n ≡ some i → P i
 all-at is none-left n i g = absurd (Option·none-ne-some i g)
 all-at {P} is (one-more {x = j} h hs) zero i g = subst P (Option·some-injective j i g) h
 all-at is (one-more {xs = js} h hs) (suc n) i g = all-at js hs n i g
-
--- the row of a kind that holds a name, and a content that is the count of words before what it marks
-abbrev pub HoldsCount : Names → List BinaryInstruction → ℕ → ℕ → ℕ → OlaOperand → Type 0
-HoldsCount names is kind start n c = (l : LabelRow) × (holderOf names kind start n ≡ some l) × (c ≡ aNumber (wordsBefore is (l .marks)))
 
 module _ (s : List ℕ) (rows : List AsmRow) (is : List BinaryInstruction) (canonical : canonicalProgram s rows ≡ ok is) (placed : firstMisplaced 0 is ≡ none)
     (clean : allClean (instructions rows) ≡ true) (shaped : All MemoryShaped (instructions rows)) where
@@ -180,15 +180,29 @@ module _ (s : List ℕ) (rows : List AsmRow) (is : List BinaryInstruction) (cano
       let x = looked-up (namesOf s rows) m (holderOf (namesOf s rows) kind start n) c e in
       (x .0, x .1, sym (x .2) ∙ ap aNumber (addresses-are-words (x .0 .marks)))
 
-  -- a name in an operand is the count of words before what its call row marks, a label that of its `.LBL` row
-  pub names-are-word-counts : (k : ℕ) (i : OlaAsmInstruction) (b : BinaryInstruction) → getElem? (instructions rows) k ≡ some i → getElem? is k ≡ some b
-      → (place : Place) (start n : ℕ)
+  -- every row has an instruction, where a name in an operand is the count of words before what its call row marks, a label that of its `.LBL` row
+  pub names-are-word-counts : (k : ℕ) (i : OlaAsmInstruction) → getElem? (instructions rows) k ≡ some i
+      → (b : BinaryInstruction) × (getElem? is k ≡ some b) × ((place : Place) (start n : ℕ)
       → (operandAt place i ≡ Identifier start n → HoldsCount (namesOf s rows) is callKind start n (contentAt place b))
-      × (operandAt place i ≡ Label start n → HoldsCount (namesOf s rows) is jmpKind start n (contentAt place b))
-  names-are-word-counts k i b g h place start n =
-      let at = pairs-at (namesOf s rows) 0 (instructions rows) is (canonical-pairs (namesOf s rows) 0 (instructions rows) is canonical) k i b g h in
-      let origin = canonical-origin (namesOf s rows) (at .0) i b (at .1) in
-      let shape = all-at (instructions rows) shaped k i g in (
-        λ e. counted-words (at .0) callKind start n (contentAt place b) (name-found (namesOf s rows) (at .0) i b origin shape place (Identifier start n) e refl),
-        λ e. counted-words (at .0) jmpKind start n (contentAt place b) (name-found (namesOf s rows) (at .0) i b origin shape place (Label start n) e refl),
+      × (operandAt place i ≡ Label start n → HoldsCount (namesOf s rows) is jmpKind start n (contentAt place b)))
+  names-are-word-counts k i g = (b, at .1, counts)
+    where
+      names : Names
+      names = namesOf s rows
+
+      at : (b : BinaryInstruction) × (getElem? is k ≡ some b) × (m : ℕ) × (canonicalOf names m i ≡ ok b)
+      at = pairs-at names 0 (instructions rows) is (canonical-pairs names 0 (instructions rows) is canonical) k i g
+
+      b : BinaryInstruction
+      b = at .0
+
+      found : (place : Place) (x : OlaAsmOperand) → operandAt place i ≡ x → isLookedUp x ≡ true → plain names (at .2) x ≡ ok (contentAt place b)
+      found = name-found names (at .2) i b (canonical-origin names (at .2) i b (at .3)) (all-at (instructions rows) shaped k i g)
+
+      counts : (place : Place) (start n : ℕ)
+          → (operandAt place i ≡ Identifier start n → HoldsCount names is callKind start n (contentAt place b))
+          × (operandAt place i ≡ Label start n → HoldsCount names is jmpKind start n (contentAt place b))
+      counts place start n = (
+        λ e. counted-words (at .2) callKind start n (contentAt place b) (found place (Identifier start n) e refl),
+        λ e. counted-words (at .2) jmpKind start n (contentAt place b) (found place (Label start n) e refl),
       )

@@ -1,10 +1,10 @@
--- The third promise, from the laws of names and what holds of every accepted source.
+-- The rows of an accepted source and the names in them, from the laws of names and what holds of every accepted source.
 use Prim.Native.Nat.{ℕ}
 use mathlib.Core.Path.{_≡_, refl, sym, ap, subst, _∙_}
 use mathlib.Core.List.{List}
 use mathlib.Core.Bool.{true}
 use mathlib.Core.Option.{some}
-use lib.ListN.{getElem?}
+use lib.ListN.{length, getElem?}
 use Rattle.text.specs.Answer.{ok}
 use Rattle.text.proofs.AnswerLaws.{ok-same}
 use Rattle.vm_hardware.specs.declared.Place.{Place}
@@ -17,9 +17,9 @@ use Rattle.relocate.specs.Relocate.{sortedOf}
 use Rattle.program.specs.declared.BinaryInstruction.{BinaryInstruction}
 use Rattle.encoder.specs.Canonical.{namesOf, canonicalProgram}
 use Rattle.encoder.specs.Assemble.{Room, Accepted, assembled}
-use Rattle.encoder.proofs.AcceptedLaws.{accepted-rows}
-use Rattle.promises.specs.Terms.{allClean, operandAt, contentAt}
-use Rattle.promises.specs.NameLaws.{HoldsCount, names-are-word-counts}
+use Rattle.encoder.proofs.AcceptedLaws.{accepted-rows, canonical-pairs}
+use Rattle.promises.specs.Terms.{allClean, operandAt, contentAt, HoldsCount}
+use Rattle.promises.specs.NameLaws.{pairs-length, names-are-word-counts}
 use Rattle.promises.specs.AcceptedLaws.{accepted-shaped}
 
 module _ (s prophets : List ℕ) (room : Room) (a : Accepted) (h : assembled s prophets room ≡ ok a) where
@@ -29,11 +29,18 @@ module _ (s prophets : List ℕ) (room : Room) (a : Accepted) (h : assembled s p
       let r = accepted-rows s prophets room a h in
       subst (λ (x : List AsmRow). canonicalProgram s x ≡ ok (a .program)) (ok-same (sym (r .sorted) ∙ e)) (r .canonical)
 
+  -- an accepted source has rows, and as many instructions as instruction rows
+  pub rows-there : (rows : List AsmRow) × (sortedOf s ≡ ok rows) × (length (instructions rows) ≡ length (a .program))
+  rows-there =
+      let r = accepted-rows s prophets room a h in
+      let names = namesOf s (r .rows) in
+      (r .rows, r .sorted, pairs-length names 0 (instructions (r .rows)) (a .program) (canonical-pairs names 0 (instructions (r .rows)) (a .program) (r .canonical)))
+
   pub names-counted : (rows : List AsmRow) → sortedOf s ≡ ok rows → allClean (instructions rows) ≡ true
-      → (k : ℕ) (i : OlaAsmInstruction) (b : BinaryInstruction) → getElem? (instructions rows) k ≡ some i → getElem? (a .program) k ≡ some b
-      → (place : Place) (start n : ℕ)
+      → (k : ℕ) (i : OlaAsmInstruction) → getElem? (instructions rows) k ≡ some i
+      → (b : BinaryInstruction) × (getElem? (a .program) k ≡ some b) × ((place : Place) (start n : ℕ)
       → (operandAt place i ≡ Identifier start n → HoldsCount (namesOf s rows) (a .program) callKind start n (contentAt place b))
-      × (operandAt place i ≡ Label start n → HoldsCount (namesOf s rows) (a .program) jmpKind start n (contentAt place b))
+      × (operandAt place i ≡ Label start n → HoldsCount (namesOf s rows) (a .program) jmpKind start n (contentAt place b)))
   names-counted rows e clean =
       names-are-word-counts s rows (a .program) (of-rows rows e) (accepted-rows s prophets room a h .placed) clean
       (accepted-shaped s prophets room a h rows e)

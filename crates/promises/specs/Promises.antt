@@ -1,30 +1,34 @@
--- The promises: demand 3 as theorems about the definitions that the contracts cite. Each is proved in the file that it names, and names the public
--- functions of whose contracts it speaks.
+-- The promises: demand 3, and what else a reviewer relies on, as theorems about the definitions that the contracts cite. Each is proved in the file
+-- that it names, and names the public functions of whose contracts it speaks.
 -- A source is accepted where assembling it, with some prophets and some room, answers ok a: a .program is then its canonical program, made
 -- from its rows, a .words its words, and bytecodeOf (a .words) its bytecode.
-use Prim.Native.Nat.{ℕ, suc, _-_, _≤_}
+use Prim.Native.Nat.{ℕ, suc, _-_, _≤_, _<_}
 use mathlib.Core.Logic.{_↔_}
-use mathlib.Core.Path.{_≡_, ap, _∙_}
+use mathlib.Core.Path.{_≡_, refl, sym, ap, _∙_}
 use mathlib.Core.List.{List, _++_, map}
 use mathlib.Core.Bool.{true}
 use mathlib.Core.Option.{some}
 use lib.ListN.{length, take, getD, replicate, getElem?, length-map}
+use Rattle.text.specs.Lines.{lines}
 use Rattle.text.specs.Answer.{Answer, ok, refused, _>>=_}
 use Rattle.text.proofs.All.{All}
 use Rattle.vm_hardware.specs.declared.Place.{Place}
+use Rattle.asm.specs.Parts.{rowPieces, sourcePieces}
 use Rattle.asm.specs.Rows.{instructions}
 use Rattle.asm.specs.declared.OlaAsmOperand.the-variants.{Label, Identifier}
 use Rattle.asm.specs.declared.OlaAsmInstruction.{OlaAsmInstruction}
 use Rattle.asm.specs.declared.AsmRow.{AsmRow}
-use Rattle.relocate.specs.Labels.{LabelRow, callKind, jmpKind}
+use Rattle.asm_laws.proofs.LineLaws.{textOf, placedLines, textRows, source-lines, lines-texts}
+use Rattle.relocate.specs.Labels.{callKind, jmpKind}
+use Rattle.relocate.specs.Prophets.{keptFrom}
 use Rattle.relocate.specs.Relocate.{sortedOf}
-use Rattle.program.specs.Instructions.{aNumber}
+use Rattle.relocate_laws.proofs.KeptLaws.{Ascending, placeOf, places-ascend, later-kept as last-is-kept}
 use Rattle.program.specs.Words.{programWords, wordsBefore}
 use Rattle.program.specs.Bytecode.{bytecodeOf, bytecodeWritten, textLeft}
 use Rattle.program.specs.declared.BinaryInstruction.{BinaryInstruction}
 use Rattle.program.proofs.CanonicalForm.{CanonicalForm, InOrder}
 use Rattle.program.proofs.FormLaws.{words-before}
-use Rattle.encoder.specs.Canonical.{namesOf, holderOf}
+use Rattle.encoder.specs.Canonical.{namesOf}
 use Rattle.encoder.specs.Assemble.{Room, Accepted, assembled, totalsOf, assembledTotals, wordsLeft}
 use Rattle.decoder.specs.AsRead.{asRead, asCanonical}
 use Rattle.decoder.specs.Open.{opened, run}
@@ -32,11 +36,11 @@ use Rattle.decoder.specs.Steps.{runAt, nthCall}
 use Rattle.decoder.proofs.BytecodeLaws.{opens}
 use Rattle.decoder.proofs.OffsetLaws.{run-by-offsets as offsets-run}
 use Rattle.decoder.proofs.OpenedLaws.{opened-run as run-opened, opened-form as form-opened}
-use Rattle.promises.specs.Terms.{SameProgram, allClean, operandAt, contentAt}
+use Rattle.promises.specs.Terms.{SameProgram, allClean, operandAt, contentAt, HoldsCount, IsKept}
 use Rattle.promises.specs.TieLaws.{left-front, bytecode-fits, nth-answer}
-use Rattle.promises.specs.SameLaws.{words-same, bytecode-same}
+use Rattle.promises.specs.SameLaws.{words-same, bytecode-same, program-alone}
 use Rattle.promises.specs.AcceptedLaws.{accepted-words, accepted-readable, accepted-short, accepted-form}
-use Rattle.promises.specs.NamePromise.{names-counted}
+use Rattle.promises.specs.NamePromise.{rows-there, names-counted}
 
 -- What a caller holds after an accepted call.
 module _ (s prophets : List ℕ) (room : Room) (a : Accepted) (h : assembled s prophets room ≡ ok a) where
@@ -67,6 +71,13 @@ module _ (s t prophets others : List ℕ) (room space : Room) (a b : Accepted) (
   -- Comparing the published texts is as good as comparing the words.
   pub same-bytecode : (bytecodeOf (a .words) ≡ bytecodeOf (b .words)) ↔ SameProgram (a .program) (b .program)
   same-bytecode = bytecode-same s t prophets others room space a b h k
+
+-- One source accepted twice, with prophets and room of their own: one canonical program and the same words.
+-- Of encoder_assemble::assemble_parts and encoder_entries::assemble, and their exports ola_c::ola_assemble_parts and ola_c::ola_assemble.
+-- A reviewer may speak of the canonical program and the words of a source: neither a prophet list nor a longer buffer changes them.
+pub one-program : (s prophets others : List ℕ) (room space : Room) (a b : Accepted) → assembled s prophets room ≡ ok a → assembled s others space ≡ ok b
+    → (a .program ≡ b .program) × (a .words ≡ b .words)
+one-program = program-alone
 
 -- Any text, from its first byte: the run by offsets gives what the run by lines gives.
 -- Of decoder_next::next_at on the one side, decoder_runs::next_line and decoder_bytecode::next on the other.
@@ -125,15 +136,45 @@ module _ (s prophets : List ℕ) (room : Room) (a : Accepted) (h : assembled s p
   pub words-ahead : (n : ℕ) → length (programWords (take n (a .program))) ≡ wordsBefore (a .program) n
   words-ahead n = words-before (a .program) (accepted-form s prophets room a h) n
 
-  -- Where no bracketed operand stands outside mload and mstore, each name in a place of the k-th row is, in that place of the k-th instruction,
-  -- the count of words before the instruction that is marked by the row that holds the name; each label likewise.
-  -- Of encoder_assemble::assemble_parts and encoder_entries::assemble: their words are this program's.
+  -- It has rows, and as many instructions as it has instruction rows.
+  -- Of encoder_assemble::assemble_parts and encoder_entries::assemble, ola_c::ola_assemble_parts and ola_c::ola_assemble: their words are this program's.
+  -- A reviewer may count on it that no row is left out and none is added.
+  pub accepted-has-rows : (rows : List AsmRow) × (sortedOf s ≡ ok rows) × (length (instructions rows) ≡ length (a .program))
+  accepted-has-rows = rows-there s prophets room a h
+
+  -- Where no bracketed operand stands outside mload and mstore, the k-th instruction row has its k-th instruction, and each name in a place of the
+  -- row is, in that place of the instruction, the count of words before the instruction that is marked by the row that holds the name; each label
+  -- likewise.
+  -- Of the same functions.
   -- A jump or a call in such a source goes where its name stands.
   pub names-are-word-counts : (rows : List AsmRow) → sortedOf s ≡ ok rows → allClean (instructions rows) ≡ true
-      → (k : ℕ) (i : OlaAsmInstruction) (b : BinaryInstruction) → getElem? (instructions rows) k ≡ some i → getElem? (a .program) k ≡ some b
-      → (place : Place) (start n : ℕ)
-      → (operandAt place i ≡ Identifier start n
-      → (l : LabelRow) × (holderOf (namesOf s rows) callKind start n ≡ some l) × (contentAt place b ≡ aNumber (wordsBefore (a .program) (l .marks))))
-      × (operandAt place i ≡ Label start n
-      → (l : LabelRow) × (holderOf (namesOf s rows) jmpKind start n ≡ some l) × (contentAt place b ≡ aNumber (wordsBefore (a .program) (l .marks))))
+      → (k : ℕ) (i : OlaAsmInstruction) → getElem? (instructions rows) k ≡ some i
+      → (b : BinaryInstruction) × (getElem? (a .program) k ≡ some b) × ((place : Place) (start n : ℕ)
+      → (operandAt place i ≡ Identifier start n → HoldsCount (namesOf s rows) (a .program) callKind start n (contentAt place b))
+      × (operandAt place i ≡ Label start n → HoldsCount (namesOf s rows) (a .program) jmpKind start n (contentAt place b)))
   names-are-word-counts = names-counted s prophets room a h
+
+  -- Of the prophets on one host the last in the list is kept, and no other.
+  -- Of the count kept that the same functions answer, and the hosts that they leave, in list order.
+  -- A caller finds the prophets kept in the hosts left: of equal hosts the last.
+  pub later-kept : (k host : ℕ)
+      → IsKept (a .hosts) k host ↔ ((getElem? (a .hosts) k ≡ some host) × ((j : ℕ) → k < j → getElem? (a .hosts) j ≡ some host → ⊥))
+  later-kept = last-is-kept (a .hosts)
+
+  -- The count answered is how many are kept, in the order of the list and each once.
+  -- Of the same functions.
+  -- With the last theorem: the count kept is the count of different hosts.
+  pub kept-counted : (totalsOf a .kept ≡ length (keptFrom 0 (a .hosts))) × Ascending (map placeOf (keptFrom 0 (a .hosts)))
+  kept-counted = (refl, places-ascend 0 (a .hosts))
+
+-- Any source: its rows are made of its lines as Rust's `lines` gives them, each from the place where it starts.
+-- Of encoder_assemble::assemble_parts and encoder_entries::assemble, ola_c::ola_assemble_parts and ola_c::ola_assemble, which read these rows.
+-- A reviewer may conclude that `\r\n` ends a line as `\n` does, that the last line's ending changes nothing, and where each line starts.
+pub rows-by-lines : (s : List ℕ) → (sourcePieces s ≡ rowPieces (placedLines s)) × (map textOf (placedLines s) ≡ lines s)
+rows-by-lines s = source-lines s
+
+-- Two sources with the same lines have the same rows but for the places of their pieces.
+-- Of the same functions.
+-- A reviewer may change the line endings of a source and read the same rows.
+pub same-lines : (s t : List ℕ) → lines s ≡ lines t → map (map textOf) (sourcePieces s) ≡ map (map textOf) (sourcePieces t)
+same-lines s t e = lines-texts s ∙ ap textRows e ∙ sym (lines-texts t)

@@ -8,7 +8,9 @@ use Rattle.text.proofs.AnswerLaws.{ok-same}
 use Rattle.program.specs.Words.{programWords}
 use Rattle.program.specs.Bytecode.{bytecodeOf}
 use Rattle.program.specs.declared.BinaryInstruction.{BinaryInstruction}
+use Rattle.encoder.specs.Canonical.{canonicalProgram}
 use Rattle.encoder.specs.Assemble.{Room, Accepted, assembled}
+use Rattle.encoder.proofs.AcceptedLaws.{AcceptedRows, accepted-rows}
 use Rattle.decoder.specs.AsRead.{asRead}
 use Rattle.decoder.specs.Open.{opened}
 use Rattle.decoder.proofs.BytecodeLaws.{opens}
@@ -49,3 +51,17 @@ module _ (s t prophets others : List ℕ) (room space : Room) (a b : Accepted) (
 
   pub bytecode-same : (bytecodeOf (a .words) ≡ bytecodeOf (b .words)) ↔ SameProgram (a .program) (b .program)
   bytecode-same = (λ e. equal-same (bytecode-equal e), λ e. ap bytecodeOf (equal-words (same-equal e)))
+
+-- the program and the words are the source's alone, whatever the prophets and the room
+pub program-alone : (s prophets others : List ℕ) (room space : Room) (a b : Accepted) → assembled s prophets room ≡ ok a → assembled s others space ≡ ok b
+    → (a .program ≡ b .program) × (a .words ≡ b .words)
+program-alone s prophets others room space a b h k = (same, x .words ∙ ap programWords same ∙ sym (y .words))
+  where
+    x : AcceptedRows s prophets a
+    x = accepted-rows s prophets room a h
+
+    y : AcceptedRows s others b
+    y = accepted-rows s others space b k
+
+    same : a .program ≡ b .program
+    same = ok-same (sym (x .canonical) ∙ ap (canonicalProgram s) (ok-same (sym (x .sorted) ∙ y .sorted)) ∙ y .canonical)

@@ -1,8 +1,9 @@
--- The words of demand 3: the same program, and where names stand.
+-- The words of the promises: the same program, where names stand, and which prophets are kept.
 use Prim.Native.Nat.{ℕ, _%_}
 use mathlib.Core.Path.{_≡_}
-use mathlib.Core.List.{List, [], _∷_, map}
+use mathlib.Core.List.{List, [], _∷_, map, List·Memᴰ}
 use mathlib.Core.Bool.{Bool, true, false, not, _&&_, _||_}
+use mathlib.Core.Option.{some}
 use Rattle.vm_hardware.specs.declared.Place.{Place}
 use Rattle.vm_hardware.specs.declared.Place.the-variants.{Op0, Op1, Dst}
 use Rattle.vm_operands.specs.Numbers.{order, immediate}
@@ -12,8 +13,12 @@ use Rattle.vm_operands.specs.declared.OlaOperand.the-variants.{Empty, Immediate
 use Rattle.asm.specs.declared.OlaAsmOperand.{OlaAsmOperand}
 use Rattle.asm.specs.declared.OlaAsmOperand.the-variants.{Empty as NoOperand, ImmediateOperand as ANumber, RegisterOperand as ARegister, RegisterWithOffset as AnOffset, RegisterWithFactoredRegOffset as AFactor, SpecialReg as ASpecial, Label, Identifier}
 use Rattle.asm.specs.declared.OlaAsmInstruction.{OlaAsmInstruction}
-use Rattle.program.specs.Instructions.{made, isMemory}
+use Rattle.relocate.specs.Labels.{LabelRow}
+use Rattle.relocate.specs.Prophets.{keptFrom}
+use Rattle.program.specs.Instructions.{made, aNumber, isMemory}
+use Rattle.program.specs.Words.{wordsBefore}
 use Rattle.program.specs.declared.BinaryInstruction.{BinaryInstruction}
+use Rattle.encoder.specs.Canonical.{Names, holderOf}
 
 -- ---- the same program: "one by one the same operation, the same contents or emptiness of each place, and numbers equal modulo p"
 
@@ -65,3 +70,15 @@ abbrev pub contentAt : Place → BinaryInstruction → OlaOperand
 contentAt Op0 i = i .op0
 contentAt Op1 i = i .op1
 contentAt Dst i = i .dst
+
+-- "the count of words before the instruction marked by the row that holds its name": the row of a kind that holds the name at a place of the
+-- source, and a content that is that count
+abbrev pub HoldsCount : Names → List BinaryInstruction → ℕ → ℕ → ℕ → OlaOperand → Type 0
+HoldsCount names program kind start n content =
+    (l : LabelRow) × (holderOf names kind start n ≡ some l) × (content ≡ aNumber (wordsBefore program (l .marks)))
+
+-- ---- prophets
+
+-- the prophet at place k of the list is kept, on host h
+abbrev pub IsKept : List ℕ → ℕ → ℕ → Type 0
+IsKept hosts k h = List·Memᴰ (record { host = h; place = k }) (keptFrom 0 hosts)

@@ -20,7 +20,7 @@ use Rattle.asm.specs.Rows.{arranged, operandsOf, arrangedIf, isCallRow, isPairR
 use Rattle.asm.specs.declared.AsmRow.{AsmRow}
 use Rattle.relocate.specs.Scopes.{cutAtCalls, scopesThat, rowsOfScopes}
 use Rattle.relocate.specs.Labels.{labelRows, holder, tableOf}
-use Rattle.relocate.specs.Prophets.{withoutLastEmpty, labelsAfterHead, listedLabels, hostsFrom, isIn, keptFrom, keptCount}
+use Rattle.relocate.specs.Prophets.{withoutLastEmpty, labelsAfterHead, listedLabels, hostsFrom, isIn, Kept, keptFrom, keptCount}
 use Rattle.relocate.specs.Relocate.{firstAbove127, rowsRead, sortedOf, tabled, hostsOf}
 use Rattle.relocate.specs.Columns.{columnLeft, addressIn}
 use Rattle.relocate.specs.declared.LabelEntry.{LabelEntry}
@@ -102,6 +102,13 @@ hostCases =
     ∷ (bytes "main:\nend", (108 ∷ 97 ∷ 98 ∷ 101 ∷ 108 ∷ 10 ∷ 200 ∷ []), refused 9 0)
     ∷ []
 
+-- the hosts of a list, and what is kept: "Of two prophets on one host the later in the list is kept"
+abbrev keptCases : List (List ℕ × List Kept)
+keptCases =
+    (5 ∷ 7 ∷ 5 ∷ [], record { host = 7; place = 1 } ∷ record { host = 5; place = 2 } ∷ [])
+    ∷ (0 ∷ 0 ∷ 0 ∷ [], record { host = 0; place = 2 } ∷ [])
+    ∷ []
+
 -- the cases are exported, since modules that export are checked first: a wrong definition is told by its case, then by the laws
 pub tables-right : map (λ c. tableWith (c .0) (c .1)) tableCases ≡ map (λ c. c .2) tableCases
 unfolding isSpace isDigit isLetter isWord same total scan all parts _>>=_ _>>_ refuseIf refuseAt digitValue valueFrom numeral operations firstOperation registers registerOf specialOf signed numberOf placed filledParts piecesFrom linePieces rowPieces shapes firstMatch arranged operandsOf arrangedIf isCallRow isPairRow labelRow rowOf nameAt cutAtCalls scopesThat rowsOfScopes instructions labelRows holder firstAbove127 readRows rowsRead sortedOf tabled
@@ -114,6 +121,10 @@ columns-right = refl
 pub hosts-right : map (λ c. hostsWith (c .0) (c .1)) hostCases ≡ map (λ c. c .2) hostCases
 unfolding isSpace isDigit isLetter isWord same total scan all parts _>>=_ _>>_ refuseIf refuseAt digitValue valueFrom numeral operations firstOperation registers registerOf specialOf signed numberOf placed filledParts piecesFrom linePieces rowPieces shapes firstMatch arranged operandsOf arrangedIf isCallRow isPairRow labelRow rowOf nameAt cutAtCalls scopesThat rowsOfScopes instructions labelRows holder withoutLastEmpty labelsAfterHead listedLabels hostsFrom isIn keptFrom firstAbove127 readRows rowsRead sortedOf hostsOf
 hosts-right = refl
+
+pub kept-right : map (λ c. keptFrom 0 (c .0)) keptCases ≡ map (λ c. c .1) keptCases
+unfolding isIn keptFrom
+kept-right = refl
 
 -- 1 and 8 stand before everything else, whatever the bytes are
 too-long : (s : List ℕ) → 65536 < length s → rowsRead s ≡ refused 1 0

@@ -5,3 +5,4 @@ pub mod ScopeLaws
 pub mod SortLaws
 pub mod StretchLaws
 pub mod WalkLaws
+pub mod KeptLaws
