@@ -1,12 +1,12 @@
 -- A source in lines and their pieces, each with its place in the source.
 use Prim.Native.Nat.{ℕ, _+_}
-use mathlib.Core.List.{List, [], _∷_}
+use mathlib.Core.List.{List, [], _∷_, zipWith}
 use mathlib.Core.Bool.{cond, not}
 use lib.Dec.{eqb, leb}
 use lib.ListN.{length, take, drop}
 use Rattle.text.specs.Bytes.{isSpace}
 use Rattle.text.specs.Scan.{scan, parts, isEmpty}
-use Rattle.text.specs.Lines.{isFeed, notFeed, lineNext}
+use Rattle.text.specs.Lines.{isFeed, notFeed, lines, lineNext}
 
 -- a part of the source: where it starts, and its bytes
 pub record Part : Type 0 where
@@ -47,6 +47,19 @@ piecesAfter s i = rowPieces (placed i (parts isFeed (drop i s)))
 -- the pieces of each row of a source
 abbrev pub sourcePieces : List ℕ → List (List Part)
 sourcePieces s = piecesAfter s 0
+
+-- what a part holds
+abbrev pub textOf : Part → List ℕ
+textOf q = q .text
+
+-- texts with the places of parts
+abbrev pub linesAt : List Part → List (List ℕ) → List Part
+linesAt qs ls = zipWith (λ q l. record { start = q .start; text = l }) qs ls
+
+-- "The Rust documentation of `lines` ... decides": a source's lines by it, each with the place where it starts, which is that of the part between line
+-- feeds that it is; `rows-by-lines` of the promises says that the rows are made of these
+abbrev pub placedLines : List ℕ → List Part
+placedLines s = linesAt (placed 0 (parts isFeed s)) (lines s)
 
 -- the line of a text that starts at place i
 abbrev pub lineAt : List ℕ → ℕ → Part

@@ -12,7 +12,7 @@ use Rattle.text.specs.Bytes.{isSpace}
 use Rattle.text.specs.Scan.{scan, parts, isEmpty}
 use Rattle.text.specs.Lines.{isFeed, endsInReturn, withoutReturn, ended, lines}
 use Rattle.text.specs.Pieces.{filled, pieces}
-use Rattle.asm.specs.Parts.{Part, placed, filledParts, withoutComment, piecesFrom, linePieces, rowPieces, sourcePieces}
+use Rattle.asm.specs.Parts.{Part, placed, filledParts, withoutComment, piecesFrom, linePieces, rowPieces, sourcePieces, textOf, linesAt, placedLines}
 use Rattle.asm_laws.proofs.MoveLaws.{parts-joined}
 
 -- ---- a carriage return at the end of a line
@@ -76,19 +76,6 @@ line-without-return i l = go (endsInReturn l) refl
     go false e = refl
 
 -- ---- lines with their places
-
--- what a part holds
-abbrev pub textOf : Part → List ℕ
-textOf q = q .text
-
--- texts with the places of parts
-abbrev linesAt : List Part → List (List ℕ) → List Part
-linesAt qs ls = zipWith (λ q l. record { start = q .start; text = l }) qs ls
-
--- the lines of a source by Rust's `lines`, each with the place where it starts, which is that of the part between line feeds that it is; the last
--- part is no line where it is empty
-abbrev pub placedLines : List ℕ → List Part
-placedLines s = linesAt (placed 0 (parts isFeed s)) (lines s)
 
 -- the rows of the parts are those of the lines
 ended-rows : (i : ℕ) (ls : List (List ℕ)) → rowPieces (placed i ls) ≡ rowPieces (linesAt (placed i ls) (ended ls))

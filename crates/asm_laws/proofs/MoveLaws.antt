@@ -17,7 +17,7 @@ use Rattle.text.specs.Answer.{Answer, ok, refused, _>>=_}
 use Rattle.text.proofs.Laws.{scan-le}
 use Rattle.text.proofs.PartLaws.{parts-some}
 use Rattle.text.proofs.SumLaws.{spaced, parts-total}
-use Rattle.text.proofs.All.{All, none-left, one-more}
+use Rattle.text.specs.All.{All, none-left, one-more}
 use Rattle.vm_mnemonics.specs.Mnemonics.{operationOf}
 use Rattle.asm.specs.Parts.{Part, placed, filledParts, withoutComment, piecesFrom, linePieces, rowPieces, sourcePieces, nameAt}
 use Rattle.asm.specs.Rows.{operandsOf, arrangedIf, isCallRow, isPairRow, labelRow, orElseRow, rowOf, rowRead, readRows}

@@ -10,7 +10,7 @@ use Rattle.text.specs.Bytes.{bytes, isSpace}
 use Rattle.text.specs.Lists.{total}
 use Rattle.text.specs.Scan.{parts, isEmpty}
 use Rattle.text.specs.Answer.{Answer, ok, refused, _>>=_}
-use Rattle.text.proofs.All.{All, none-left, one-more}
+use Rattle.text.specs.All.{All, none-left, one-more}
 use Rattle.vm_hardware.specs.Registers.{registerOf, specialOf}
 use Rattle.vm_hardware.specs.declared.RegisterFound.{RegisterFound}
 use Rattle.vm_hardware.specs.declared.RegisterFound.the-variants.{Is as IsRegister, Nothing as NoRegister}

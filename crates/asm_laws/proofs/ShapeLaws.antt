@@ -6,7 +6,7 @@ use mathlib.Core.Bool.{Bool, true, false, cond}
 use mathlib.Core.Option.{Option, none, some}
 use lib.ListN.{length}
 use Rattle.text.specs.Bytes.{bytes}
-use Rattle.text.proofs.All.{All, none-left, one-more}
+use Rattle.text.specs.All.{All, none-left, one-more}
 use Rattle.vm_opcodes.specs.Operations.{rowPlaces}
 use Rattle.vm_opcodes.specs.declared.OlaOpcode.{OlaOpcode}
 use Rattle.vm_opcodes.specs.declared.OpcodeFound.{OpcodeFound}

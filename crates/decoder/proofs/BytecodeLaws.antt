@@ -7,7 +7,7 @@ use borrow.Author.Tests.{le-ltb}
 use lib.ListN.{length}
 use Rattle.text.specs.Lines.{lines}
 use Rattle.text.specs.Answer.{ok, _>>=_, _>>_, refuseIf, refuseAt}
-use Rattle.text.proofs.All.{All, one-more}
+use Rattle.text.specs.All.{All, one-more}
 use Rattle.program.specs.Words.{programWords}
 use Rattle.program.specs.Groups.{Group}
 use Rattle.program.specs.Bytecode.{bytecodeOf}

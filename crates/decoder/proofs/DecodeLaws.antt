@@ -34,7 +34,7 @@ use Rattle.vm_operands.proofs.Laws.{number-below}
 use Rattle.program.specs.Instructions.{made, isMemory, isMov, carried}
 use Rattle.program.specs.Groups.{Group, hasSecond}
 use Rattle.program.specs.declared.BinaryInstruction.{BinaryInstruction}
-use Rattle.program.proofs.CanonicalForm.{CanonicalForm, plain, numbered, offset, factored, orEmpty, BelowOrder, no-number, below, InOrder}
+use Rattle.program.specs.CanonicalForm.{CanonicalForm, plain, numbered, offset, factored, orEmpty, BelowOrder, no-number, below, InOrder}
 use Rattle.decoder.specs.Lines.{hasPrefix, numberFound, firstOfLine, secondOfLine, wordHasSecond, isHere, isComplete}
 use Rattle.decoder.specs.Decode.{registerOr, contentIn, missingOp1, memoryBuilt, memoryIn, builtWith, onNumber, twoDue, onOperation, onFirst, groupDecoded}
 use Rattle.decoder.specs.AsRead.{op1AsCanonical, asCanonical}

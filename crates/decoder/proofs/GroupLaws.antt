@@ -5,7 +5,7 @@ use mathlib.Core.List.{List, [], _∷_, _++_, map}
 use mathlib.Core.Bool.{Bool, true, false}
 use mathlib.Core.Option.{Option, none, some}
 use Rattle.text.specs.Answer.{ok}
-use Rattle.text.proofs.All.{All, one-more}
+use Rattle.text.specs.All.{All, one-more}
 use Rattle.text_write.specs.Digits.{fewestText, sixteenText}
 use Rattle.program.specs.Words.{firstWord, secondWord, inOrder, programWords}
 use Rattle.program.specs.Groups.{Group, grouped, hasSecond, wordGroups}

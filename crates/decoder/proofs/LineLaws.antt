@@ -11,7 +11,7 @@ use lib.ListN.{length, getD, length-append}
 use Rattle.text.specs.Bytes.{isDigit}
 use Rattle.text.specs.Scan.{all, parts, isEmpty}
 use Rattle.text.specs.Lines.{isFeed, withoutReturn, ended, lines}
-use Rattle.text.proofs.All.{All, none-left, one-more}
+use Rattle.text.specs.All.{All, none-left, one-more}
 use Rattle.text_read.specs.Numerals.{digitValue, isDigitOf}
 use Rattle.text_write.specs.Digits.{digitsOf, digitCount, prefixedText, fewestText, sixteenText}
 use Rattle.text_write.proofs.Laws.{length-sixteen, fewest-most}

@@ -10,11 +10,11 @@ use lib.ListN.{length, take, drop, replicate}
 use lib.Seq.{drop-drop}
 use Rattle.text.specs.Lines.{lines}
 use Rattle.text.specs.Answer.{Answer, ok, refused, _>>=_}
-use Rattle.text.proofs.All.{All, none-left, one-more}
+use Rattle.text.specs.All.{All, none-left, one-more}
 use Rattle.text.proofs.AnswerLaws.{ok-same, ok-bind, if-passed, at-passed}
 use Rattle.program.specs.Groups.{Group, grouped}
 use Rattle.program.specs.declared.BinaryInstruction.{BinaryInstruction}
-use Rattle.program.proofs.CanonicalForm.{CanonicalForm, InOrder}
+use Rattle.program.specs.CanonicalForm.{CanonicalForm, InOrder}
 use Rattle.decoder.specs.Lines.{lineHasSecond, lineGroups, isComplete, completeOf, linesIn}
 use Rattle.decoder.specs.Decode.{groupDecoded}
 use Rattle.decoder.specs.AsRead.{asCanonical}

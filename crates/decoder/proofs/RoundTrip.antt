@@ -13,7 +13,7 @@ use Rattle.vm_operands.specs.declared.OlaOperand.the-variants.{Empty}
 use Rattle.program.specs.Instructions.{made, registerIn, isMemory, isMov}
 use Rattle.program.specs.Words.{firstWord, secondWord}
 use Rattle.program.specs.declared.BinaryInstruction.{BinaryInstruction}
-use Rattle.program.proofs.CanonicalForm.{CanonicalForm, plain, numbered, offset, factored, orEmpty}
+use Rattle.program.specs.CanonicalForm.{CanonicalForm, plain, numbered, offset, factored, orEmpty}
 use Rattle.program.proofs.WordLaws.{foundOf, finds-operation, finds-op0, finds-op1, finds-dst, finds-number}
 use Rattle.program.proofs.FormLaws.{isSome, second-none, second-number, second-shows}
 use Rattle.decoder.specs.Lines.{secondOfLine}

@@ -5,7 +5,7 @@ use mathlib.Core.List.{List, [], _∷_}
 use mathlib.Core.Bool.{Bool, true, false, _||_, cond, true≢false}
 use mathlib.Core.Option.{Option, none, some, Option·some-ne-none}
 use Rattle.text.specs.Answer.{ok}
-use Rattle.text.proofs.All.{All, none-left, one-more}
+use Rattle.text.specs.All.{All, none-left, one-more}
 use Rattle.text.proofs.AnswerLaws.{not-ok, ok-same, ok-bind, if-passed, at-passed}
 use Rattle.vm_opcodes.specs.declared.OlaOpcode.{OlaOpcode}
 use Rattle.vm_hardware.specs.declared.OlaRegister.{OlaRegister}
@@ -24,7 +24,7 @@ use Rattle.relocate.specs.Relocate.{sortedOf, tabled, hostsOf}
 use Rattle.program.specs.Instructions.{made, aNumber, isNumber, carried, isMemory}
 use Rattle.program.specs.Words.{programWords}
 use Rattle.program.specs.declared.BinaryInstruction.{BinaryInstruction}
-use Rattle.program.proofs.CanonicalForm.{orEmpty, CanonicalForm, plain as registers, numbered, offset, factored, BelowOrder, no-number, below, InOrder}
+use Rattle.program.specs.CanonicalForm.{orEmpty, CanonicalForm, plain as registers, numbered, offset, factored, BelowOrder, no-number, below, InOrder}
 use Rattle.encoder.specs.Canonical.{Names, namesOf, holderOf, lookedUp, plain, canonicalOf, canonicalFrom, canonicalProgram, firstMisplaced}
 use Rattle.encoder.specs.Assemble.{Room, Accepted, encodedRows, assembled}
 use Rattle.encoder.proofs.Origins.{memory-rows, isMemoryRow, Anchored, by-offset, by-factor, Origin, ordinary, load, store, canonical-origin}

@@ -8,7 +8,7 @@ use native.Mathlib.Omega.{arith}
 use lib.ListN.{length, length-append}
 use Rattle.text.specs.Lists.{total}
 use Rattle.text.specs.Answer.{ok}
-use Rattle.text.proofs.All.{All, one-more}
+use Rattle.text.specs.All.{All, one-more}
 use Rattle.text.proofs.AnswerLaws.{not-ok, ok-same, ok-bind}
 use Rattle.vm_opcodes.specs.Operations.{rowPlaces}
 use Rattle.vm_opcodes.specs.declared.OlaOpcode.{OlaOpcode}

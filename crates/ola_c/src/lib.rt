@@ -28,6 +28,7 @@ ghost use Rattle.ola_c.specs.Exports.{version, lineStep, offsetStep, enc
 pub const OLA_VERSION: u64 = 1;
 
 // The version of the library, which a caller compares with its header's.
+// Promises: none; its contract is its whole outcome.
 #[no_mangle]
 pub extern "C" fn ola_version() -> u64
     ensures { λ r. ⌜ r ≡ version ⌝ }
@@ -36,7 +37,8 @@ pub extern "C" fn ola_version() -> u64
 }
 
 // Assembles a source with a prophet list over parallel arrays.
-// Promises: counts-answered, words-left, same-words, same-bytecode, words-ahead, names-are-word-counts, one-program, later-kept, rows-by-lines, accepted-has-rows.
+// Promises: counts-answered, words-left, same-words, same-bytecode, one-program, words-ahead, accepted-has-rows, names-are-word-counts,
+// later-kept, kept-counted, rows-by-lines, same-lines.
 #[no_mangle]
 pub extern "C" fn ola_assemble_parts(
     source: &[u8],
@@ -73,7 +75,8 @@ pub extern "C" fn ola_assemble_parts(
 }
 
 // Assembles a source with a prophet list over a table of entries.
-// Promises: counts-answered, words-left, same-words, same-bytecode, words-ahead, names-are-word-counts, one-program, later-kept, rows-by-lines, accepted-has-rows.
+// Promises: counts-answered, words-left, same-words, same-bytecode, one-program, words-ahead, accepted-has-rows, names-are-word-counts,
+// later-kept, kept-counted, rows-by-lines, same-lines.
 #[no_mangle]
 pub extern "C" fn ola_assemble(
     source: &[u8],
@@ -132,7 +135,7 @@ pub extern "C" fn ola_next(text: &[u8], line: usize) -> OlaStep
 }
 
 // The instruction from an offset on, and the offset reached.
-// Promises: run-by-offsets, opened-run.
+// Promises: run-by-offsets, opened-run, opened-form.
 #[no_mangle]
 pub extern "C" fn ola_next_at(text: &[u8], offset: usize) -> OlaStep
     ensures { λ r. ⌜ r ≡ offsetStep (steppedAt (now (text .entry)) offset) ⌝ }

@@ -7,7 +7,7 @@ use mathlib.Core.Option.{Option, none, some}
 use native.Mathlib.Omega.{arith}
 use lib.ListN.{length, take, length-append}
 use Rattle.text.specs.Lists.{total}
-use Rattle.text.proofs.All.{All, none-left, one-more}
+use Rattle.text.specs.All.{All, none-left, one-more}
 use Rattle.vm_opcodes.specs.declared.OlaOpcode.{OlaOpcode}
 use Rattle.vm_hardware.specs.declared.OlaRegister.{OlaRegister}
 use Rattle.vm_operands.specs.declared.ImmediateValue.{ImmediateValue}
@@ -16,7 +16,7 @@ use Rattle.program.specs.Instructions.{made, isNumber, isMemory, carried
 use Rattle.program.specs.Words.{firstWord, lastOf, secondWord, inOrder, wordsOf, programWords, emittedLength, wordsBefore}
 use Rattle.program.specs.Groups.{hasSecond}
 use Rattle.program.specs.declared.BinaryInstruction.{BinaryInstruction}
-use Rattle.program.proofs.CanonicalForm.{CanonicalForm, plain, numbered, offset, factored, orEmpty, BelowOrder, no-number, below, InOrder}
+use Rattle.program.specs.CanonicalForm.{CanonicalForm, plain, numbered, offset, factored, orEmpty, BelowOrder, no-number, below, InOrder}
 use Rattle.program.proofs.WordLaws.{first-lt, finds-second}
 
 -- whether there is one

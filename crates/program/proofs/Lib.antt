@@ -1,4 +1,3 @@
-pub mod CanonicalForm
 pub mod WordLaws
 pub mod FormLaws
 pub mod Cases

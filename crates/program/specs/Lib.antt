@@ -4,3 +4,4 @@ pub mod Groups
 pub mod Bytecode
 pub mod Listing
 pub mod Refusals
+pub mod CanonicalForm

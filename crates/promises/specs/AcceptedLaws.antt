@@ -6,7 +6,7 @@ use native.Mathlib.Omega.{arith}
 use lib.ListN.{length}
 use Rattle.text.specs.Lists.{total}
 use Rattle.text.specs.Answer.{ok}
-use Rattle.text.proofs.All.{All}
+use Rattle.text.specs.All.{All}
 use Rattle.asm.specs.Rows.{instructions}
 use Rattle.asm.specs.declared.AsmRow.{AsmRow}
 use Rattle.asm_laws.proofs.NumberLaws.{OperandsBelow, numbers-below}
@@ -15,7 +15,7 @@ use Rattle.relocate.specs.Relocate.{sortedOf}
 use Rattle.relocate_laws.proofs.LengthLaws.{address-below, sorted-instructions}
 use Rattle.program.specs.Words.{programWords, emittedLength}
 use Rattle.program.specs.Bytecode.{bytecodeOf}
-use Rattle.program.proofs.CanonicalForm.{CanonicalForm, InOrder}
+use Rattle.program.specs.CanonicalForm.{CanonicalForm, InOrder}
 use Rattle.program.proofs.FormLaws.{total-emitted, words-below}
 use Rattle.encoder.specs.Assemble.{Room, Accepted, assembled}
 use Rattle.encoder.proofs.AcceptedLaws.{AcceptedRows, accepted-rows, canonical-form, in-order}

@@ -11,6 +11,7 @@ use Rattle.text.specs.Bytes.{bytes, isSpace, isDigit, isLetter, isWord, same}
 use Rattle.text.specs.Lists.{total}
 use Rattle.text.specs.Scan.{scan, all, parts}
 use Rattle.text.specs.Lines.{lines, ended}
+use Rattle.text.specs.All.{Ascending}
 use Rattle.text.specs.Answer.{Answer, ok, refused, _>>=_, _>>_, refuseIf, refuseAt}
 use Rattle.text_read.specs.Numerals.{digitValue, valueFrom, numeral}
 use Rattle.text_write.specs.Digits.{digitsOf, digitCount}
@@ -22,19 +23,17 @@ use Rattle.vm_hardware.specs.declared.OlaRegister.the-variants.{R1, R2}
 use Rattle.vm_hardware.specs.declared.Place.the-variants.{Op1}
 use Rattle.vm_operands.specs.Numbers.{signed, numberOf}
 use Rattle.vm_operands.specs.declared.OlaOperand.the-variants.{Empty, RegisterOperand}
-use Rattle.asm.specs.Parts.{placed, filledParts, piecesFrom, linePieces, rowPieces, sourcePieces, nameAt}
+use Rattle.asm.specs.Parts.{placed, filledParts, piecesFrom, linePieces, rowPieces, sourcePieces, textOf, nameAt}
 use Rattle.asm.specs.Operands.{shapes, firstMatch}
 use Rattle.asm.specs.Rows.{arranged, operandsOf, arrangedIf, isCallRow, isPairRow, labelRow, rowOf, instructions, readRows}
 use Rattle.asm.specs.declared.OlaAsmOperand.the-variants.{Empty as NoOperand, ImmediateOperand, RegisterOperand as ARegister, Identifier}
 use Rattle.asm.specs.declared.OlaAsmInstruction.{OlaAsmInstruction}
 use Rattle.asm.specs.declared.AsmRow.{AsmRow}
 use Rattle.asm.specs.declared.AsmRow.the-variants.{Instruction, LabelCall, LabelProphet}
-use Rattle.asm_laws.proofs.LineLaws.{textOf}
 use Rattle.relocate.specs.Scopes.{cutAtCalls, scopesThat, rowsOfScopes}
 use Rattle.relocate.specs.Labels.{callKind, labelRows, holder}
 use Rattle.relocate.specs.Prophets.{withoutLastEmpty, labelsAfterHead, listedLabels, hostsFrom, isIn, keptFrom}
 use Rattle.relocate.specs.Relocate.{firstAbove127, rowsRead, sortedOf, tabled, hostsOf}
-use Rattle.relocate_laws.proofs.KeptLaws.{Ascending}
 use Rattle.program.specs.Instructions.{made, aNumber}
 use Rattle.program.specs.Words.{programWords, wordsBefore}
 use Rattle.program.specs.Groups.{grouped}

@@ -6,7 +6,7 @@ use Rattle.text.specs.Bytes.{bytes, isDigit}
 use Rattle.text.specs.Scan.{all, parts}
 use Rattle.text.specs.Lines.{lines, ended}
 use Rattle.text.specs.Answer.{Answer, ok, refused, _>>=_, _>>_, refuseIf, refuseAt}
-use Rattle.text.proofs.All.{All}
+use Rattle.text.specs.All.{All}
 use Rattle.text_read.specs.Numerals.{digitValue, valueFrom, numeral, unprefixed, hexadecimal}
 use Rattle.vm_opcodes.specs.Operations.{operations, firstOperation}
 use Rattle.vm_opcodes.specs.declared.OlaOpcode.the-variants.{MOV, CALL, RET}
@@ -18,7 +18,7 @@ use Rattle.vm_operands.specs.declared.OlaOperand.the-variants.{Empty, RegisterO
 use Rattle.program.specs.Instructions.{made, aNumber}
 use Rattle.program.specs.Groups.{grouped}
 use Rattle.program.specs.declared.BinaryInstruction.{BinaryInstruction}
-use Rattle.program.proofs.CanonicalForm.{CanonicalForm, InOrder}
+use Rattle.program.specs.CanonicalForm.{CanonicalForm, InOrder}
 use Rattle.decoder.specs.Lines.{completeOf, firstUnreadable}
 use Rattle.decoder.specs.Decode.{builtWith, onNumber, onOperation, onFirst}
 use Rattle.decoder.specs.Open.{allDecoded, opened, run}

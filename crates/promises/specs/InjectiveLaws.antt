@@ -5,7 +5,7 @@ use mathlib.Core.List.{List, [], _∷_, _++_, map}
 use mathlib.Core.Option.{Option, none, some}
 use native.Mathlib.Nat.{mod-eq-of-lt}
 use Rattle.text.specs.Answer.{ok}
-use Rattle.text.proofs.All.{All, none-left, one-more}
+use Rattle.text.specs.All.{All, none-left, one-more}
 use Rattle.vm_opcodes.specs.Operations.{operationIn}
 use Rattle.vm_opcodes.specs.declared.OpcodeFound.the-variants.{Is as IsOpcode}
 use Rattle.vm_operands.specs.Numbers.{immediate}
@@ -16,7 +16,7 @@ use Rattle.program.specs.Instructions.{carried}
 use Rattle.program.specs.Words.{firstWord, secondWord, inOrder, programWords}
 use Rattle.program.specs.Groups.{hasSecond}
 use Rattle.program.specs.declared.BinaryInstruction.{BinaryInstruction}
-use Rattle.program.proofs.CanonicalForm.{CanonicalForm, BelowOrder, below, InOrder}
+use Rattle.program.specs.CanonicalForm.{CanonicalForm, BelowOrder, below, InOrder}
 use Rattle.program.proofs.WordLaws.{finds-operation}
 use Rattle.program.proofs.FormLaws.{isSome, second-in}
 use Rattle.decoder.specs.Decode.{builtAlone, builtWith}

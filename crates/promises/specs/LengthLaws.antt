@@ -9,7 +9,7 @@ use lib.Dec.{ltb}
 use lib.ListN.{length}
 use Rattle.text.specs.Lists.{total}
 use Rattle.text.specs.Answer.{ok}
-use Rattle.text.proofs.All.{All, one-more}
+use Rattle.text.specs.All.{All, one-more}
 use Rattle.text.proofs.AnswerLaws.{ok-same, ok-bind}
 use Rattle.vm_opcodes.specs.Operations.{operations, rowPlaces}
 use Rattle.vm_opcodes.specs.declared.OlaOpcode.{OlaOpcode}

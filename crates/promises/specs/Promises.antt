@@ -1,5 +1,6 @@
 -- The promises: demand 3, and what else a reviewer relies on, as theorems about the definitions that the contracts cite. Each is proved in the file
--- that it names, and names the public functions of whose contracts it speaks.
+-- that it names, and names the public functions of whose contracts it speaks: those of Rattle, and the exports of ola_c, whose contracts cite the same
+-- definitions. Of ola_label_name, ola_encode, ola_listing_row and ola_version no theorem speaks: their contracts are their whole outcome.
 -- A source is accepted where assembling it, with some prophets and some room, answers ok a: a .program is then its canonical program, made
 -- from its rows, a .words its words, and bytecodeOf (a .words) its bytecode.
 use Prim.Native.Nat.{ℕ, suc, _-_, _≤_, _<_}
@@ -11,22 +12,22 @@ use mathlib.Core.Option.{some}
 use lib.ListN.{length, take, getD, replicate, getElem?, length-map}
 use Rattle.text.specs.Lines.{lines}
 use Rattle.text.specs.Answer.{Answer, ok, refused, _>>=_}
-use Rattle.text.proofs.All.{All}
+use Rattle.text.specs.All.{All, Ascending}
 use Rattle.vm_hardware.specs.declared.Place.{Place}
-use Rattle.asm.specs.Parts.{rowPieces, sourcePieces}
+use Rattle.asm.specs.Parts.{rowPieces, sourcePieces, textOf, placedLines}
 use Rattle.asm.specs.Rows.{instructions}
 use Rattle.asm.specs.declared.OlaAsmOperand.the-variants.{Label, Identifier}
 use Rattle.asm.specs.declared.OlaAsmInstruction.{OlaAsmInstruction}
 use Rattle.asm.specs.declared.AsmRow.{AsmRow}
-use Rattle.asm_laws.proofs.LineLaws.{textOf, placedLines, textRows, source-lines, lines-texts}
+use Rattle.asm_laws.proofs.LineLaws.{textRows, source-lines, lines-texts}
 use Rattle.relocate.specs.Labels.{callKind, jmpKind}
-use Rattle.relocate.specs.Prophets.{keptFrom}
+use Rattle.relocate.specs.Prophets.{placeOf, keptFrom}
 use Rattle.relocate.specs.Relocate.{sortedOf}
-use Rattle.relocate_laws.proofs.KeptLaws.{Ascending, placeOf, places-ascend, later-kept as last-is-kept}
+use Rattle.relocate_laws.proofs.KeptLaws.{places-ascend, later-kept as last-is-kept}
 use Rattle.program.specs.Words.{programWords, wordsBefore}
 use Rattle.program.specs.Bytecode.{bytecodeOf, bytecodeWritten, textLeft}
 use Rattle.program.specs.declared.BinaryInstruction.{BinaryInstruction}
-use Rattle.program.proofs.CanonicalForm.{CanonicalForm, InOrder}
+use Rattle.program.specs.CanonicalForm.{CanonicalForm, InOrder}
 use Rattle.program.proofs.FormLaws.{words-before}
 use Rattle.encoder.specs.Canonical.{namesOf}
 use Rattle.encoder.specs.Assemble.{Room, Accepted, assembled, totalsOf, assembledTotals, wordsLeft}
@@ -44,7 +45,7 @@ use Rattle.promises.specs.NamePromise.{rows-there, names-counted}
 
 -- What a caller holds after an accepted call.
 module _ (s prophets : List ℕ) (room : Room) (a : Accepted) (h : assembled s prophets room ≡ ok a) where
-  -- encoder_assemble::assemble_parts and encoder_entries::assemble answer the counts of this program,
+  -- encoder_assemble::assemble_parts and encoder_entries::assemble, ola_assemble_parts and ola_assemble, answer the counts of this program,
   pub counts-answered : assembledTotals s prophets room ≡ ok (totalsOf a)
   unfolding assembledTotals _>>=_
   counts-answered = rw h
@@ -53,7 +54,7 @@ module _ (s prophets : List ℕ) (room : Room) (a : Accepted) (h : assembled s p
   pub words-left : (lent : List ℕ) → take (length (a .words)) (wordsLeft (assembled s prophets room) lent) ≡ a .words
   words-left lent = left-front (assembled s prophets room) (λ (x : Accepted). x .words) lent a h
 
-  -- program_bytecode::write_bytecode, given these words and 524,288 bytes or as many as it takes, leaves their bytecode.
+  -- program_bytecode::write_bytecode and ola_write_bytecode, given these words and 524,288 bytes or as many as it takes, leave their bytecode.
   pub bytecode-left : (text : List ℕ) → length (bytecodeOf (a .words)) ≤ length text
       → take (length (bytecodeOf (a .words))) (textLeft (bytecodeWritten (a .words) (length text)) text) ≡ bytecodeOf (a .words)
   bytecode-left text k = bytecode-fits (a .words) text k
@@ -61,26 +62,26 @@ module _ (s prophets : List ℕ) (room : Room) (a : Accepted) (h : assembled s p
 -- Two accepted sources, each with prophets and room of its own.
 module _ (s t prophets others : List ℕ) (room space : Room) (a b : Accepted) (h : assembled s prophets room ≡ ok a) (k : assembled t others space ≡ ok b) where
   -- The same words exactly when the same canonical programs.
-  -- Of encoder_assemble::assemble_parts and encoder_entries::assemble, and the words that they leave.
+  -- Of encoder_assemble::assemble_parts, encoder_entries::assemble, ola_assemble_parts and ola_assemble, and the words that they leave.
   -- A reviewer may conclude from equal words that the two sources mean one program, and from different words that they do not.
   pub same-words : (a .words ≡ b .words) ↔ SameProgram (a .program) (b .program)
   same-words = words-same s t prophets others room space a b h k
 
   -- The same for their bytecode.
-  -- Of the same functions, and the text that program_bytecode::write_bytecode leaves, given their words.
+  -- Of the same functions, and the text that program_bytecode::write_bytecode and ola_write_bytecode leave, given their words.
   -- Comparing the published texts is as good as comparing the words.
   pub same-bytecode : (bytecodeOf (a .words) ≡ bytecodeOf (b .words)) ↔ SameProgram (a .program) (b .program)
   same-bytecode = bytecode-same s t prophets others room space a b h k
 
 -- One source accepted twice, with prophets and room of their own: one canonical program and the same words.
--- Of encoder_assemble::assemble_parts and encoder_entries::assemble, and their exports ola_c::ola_assemble_parts and ola_c::ola_assemble.
+-- Of encoder_assemble::assemble_parts, encoder_entries::assemble, ola_assemble_parts and ola_assemble.
 -- A reviewer may speak of the canonical program and the words of a source: neither a prophet list nor a longer buffer changes them.
 pub one-program : (s prophets others : List ℕ) (room space : Room) (a b : Accepted) → assembled s prophets room ≡ ok a → assembled s others space ≡ ok b
     → (a .program ≡ b .program) × (a .words ≡ b .words)
 one-program = program-alone
 
 -- Any text, from its first byte: the run by offsets gives what the run by lines gives.
--- Of decoder_next::next_at on the one side, decoder_runs::next_line and decoder_bytecode::next on the other.
+-- Of decoder_next::next_at and ola_next_at on the one side, decoder_runs::next_line, decoder_bytecode::next and ola_next on the other.
 -- A whole run may be made by offsets, which takes time linear in the text.
 pub run-by-offsets : (k : ℕ) (text : List ℕ) → runAt k text 0 ≡ run k text 0
 run-by-offsets k text = offsets-run k text
@@ -105,7 +106,7 @@ module _ (text : List ℕ) (is : List BinaryInstruction) (h : opened text ≡ ok
 -- One accepted source.
 module _ (s prophets : List ℕ) (room : Room) (a : Accepted) (h : assembled s prophets room ≡ ok a) where
   -- Its bytecode opens: none of 14 to 19 comes.
-  -- Of decoder_open::open_text and decoder_bytecode::open, given that text.
+  -- Of decoder_open::open_text, decoder_bytecode::open and ola_open, given that text.
   -- A reader of published words is never turned away.
   pub bytecode-opens : opened (bytecodeOf (a .words)) ≡ ok (map asRead (a .program))
   bytecode-opens =
@@ -114,7 +115,7 @@ module _ (s prophets : List ℕ) (room : Room) (a : Accepted) (h : assembled s p
 
   -- Of k calls of next from the opened bytecode, each on the reader that the last returned, the first answers are the instructions of the
   -- canonical program in order, with mov's empty source place read as psp, and every call left over is refused with 20.
-  -- Of decoder_bytecode::next and decoder_runs::next_line, called k times.
+  -- Of decoder_bytecode::next, decoder_runs::next_line and ola_next, called k times.
   -- What a reviewer reads back from published words is the program, whole and in order, and nothing else.
   pub run-reads : (k : ℕ) → run k (bytecodeOf (a .words)) 0 ≡ map ok (take k (map asRead (a .program))) ++ replicate (k - length (a .program)) (refused 20 0)
   run-reads k =
@@ -137,7 +138,7 @@ module _ (s prophets : List ℕ) (room : Room) (a : Accepted) (h : assembled s p
   words-ahead n = words-before (a .program) (accepted-form s prophets room a h) n
 
   -- It has rows, and as many instructions as it has instruction rows.
-  -- Of encoder_assemble::assemble_parts and encoder_entries::assemble, ola_c::ola_assemble_parts and ola_c::ola_assemble: their words are this program's.
+  -- Of encoder_assemble::assemble_parts, encoder_entries::assemble, ola_assemble_parts and ola_assemble: their words are this program's.
   -- A reviewer may count on it that no row is left out and none is added.
   pub accepted-has-rows : (rows : List AsmRow) × (sortedOf s ≡ ok rows) × (length (instructions rows) ≡ length (a .program))
   accepted-has-rows = rows-there s prophets room a h
@@ -168,7 +169,7 @@ module _ (s prophets : List ℕ) (room : Room) (a : Accepted) (h : assembled s p
   kept-counted = (refl, places-ascend 0 (a .hosts))
 
 -- Any source: its rows are made of its lines as Rust's `lines` gives them, each from the place where it starts.
--- Of encoder_assemble::assemble_parts and encoder_entries::assemble, ola_c::ola_assemble_parts and ola_c::ola_assemble, which read these rows.
+-- Of encoder_assemble::assemble_parts, encoder_entries::assemble, ola_assemble_parts and ola_assemble, which read these rows.
 -- A reviewer may conclude that `\r\n` ends a line as `\n` does, that the last line's ending changes nothing, and where each line starts.
 pub rows-by-lines : (s : List ℕ) → (sourcePieces s ≡ rowPieces (placedLines s)) × (map textOf (placedLines s) ≡ lines s)
 rows-by-lines s = source-lines s

@@ -4,12 +4,12 @@ use mathlib.Core.Path.{_≡_, refl, sym}
 use mathlib.Core.List.{List, [], _∷_}
 use mathlib.Core.Option.{Option, none, some}
 use Rattle.text.specs.Answer.{ok}
-use Rattle.text.proofs.All.{All, none-left, one-more}
+use Rattle.text.specs.All.{All, none-left, one-more}
 use Rattle.text_write.specs.Digits.{fewestText}
 use Rattle.vm_operands.specs.Numbers.{order}
 use Rattle.program.specs.Words.{firstWord, secondWord}
 use Rattle.program.specs.declared.BinaryInstruction.{BinaryInstruction}
-use Rattle.program.proofs.CanonicalForm.{CanonicalForm, InOrder, BelowOrder, no-number, below}
+use Rattle.program.specs.CanonicalForm.{CanonicalForm, InOrder, BelowOrder, no-number, below}
 use Rattle.program.proofs.WordLaws.{first-lt}
 use Rattle.program.proofs.FormLaws.{second-in, second-below}
 use Rattle.decoder.specs.Decode.{decoded}

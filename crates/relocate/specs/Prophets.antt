@@ -49,6 +49,10 @@ pub record Kept : Type 0 where
   pub host : ℕ
   pub place : ℕ
 
+-- the place of one that is kept
+abbrev pub placeOf : Kept → ℕ
+placeOf q = q .place
+
 -- "Of two prophets on one host the later in the list is kept"
 unfoldable pub keptFrom : ℕ → List ℕ → List Kept
 keptFrom k [] = []

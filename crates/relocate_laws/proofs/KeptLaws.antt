@@ -9,8 +9,8 @@ use native.Mathlib.Omega.{arith}
 use borrow.Author.Tests.{eqb-true, eq-eqb}
 use lib.Dec.{eqb}
 use lib.ListN.{getElem?}
-use Rattle.text.proofs.All.{All, none-left, one-more}
-use Rattle.relocate.specs.Prophets.{isIn, Kept, keptFrom}
+use Rattle.text.specs.All.{All, none-left, one-more, Ascending, no-more, next}
+use Rattle.relocate.specs.Prophets.{isIn, Kept, placeOf, keptFrom}
 
 -- the k-th of the hosts is h, and no later one is
 abbrev pub LastOn : List ℕ → ℕ → ℕ → Type 0
@@ -113,14 +113,6 @@ later-kept hosts k h = (to, from)
     from l = last-kept q 0 hosts k (omega arith) l
 
 -- ---- each once
-
--- numbers each above those before it
-pub data Ascending : List ℕ → Type 0 where
-  no-more : Ascending []
-  next : {k : ℕ} {ks : List ℕ} → All (λ j. k < j) ks → Ascending ks → Ascending (k ∷ ks)
-
-abbrev pub placeOf : Kept → ℕ
-placeOf q = q .place
 
 -- what is kept from a place on stands there or behind
 places-from : (m n : ℕ) (hs : List ℕ) → m < n → All (λ j. m < j) (map placeOf (keptFrom n hs))

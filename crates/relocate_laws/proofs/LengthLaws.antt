@@ -9,7 +9,7 @@ use lib.ListN.{length}
 use Rattle.text.specs.Lists.{total}
 use Rattle.text.specs.Scan.{isEmpty}
 use Rattle.text.specs.Answer.{ok}
-use Rattle.text.proofs.All.{All, none-left, one-more}
+use Rattle.text.specs.All.{All, none-left, one-more}
 use Rattle.text.proofs.AnswerLaws.{not-ok, ok-same, ok-bind, if-passed, at-passed}
 use Rattle.text.proofs.SumLaws.{total-least, total-most, total-take}
 use Rattle.vm_operands.specs.Numbers.{order}

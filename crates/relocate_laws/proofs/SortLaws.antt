@@ -5,7 +5,7 @@ use mathlib.Core.List.{List, [], _∷_, _++_, map}
 use mathlib.Core.Bool.{Bool, true, false, cond, not}
 use native.Mathlib.Omega.{arith}
 use Rattle.text.specs.Lists.{total}
-use Rattle.text.proofs.All.{All}
+use Rattle.text.specs.All.{All}
 use Rattle.text.proofs.AllLaws.{all-append, all-front, all-rest}
 use Rattle.text.proofs.SumLaws.{total-append}
 use Rattle.asm.specs.Rows.{instructions}

@@ -1,6 +1,6 @@
 -- A property of every entry: of two lists together, and of each of them.
 use mathlib.Core.List.{List, [], _∷_, _++_}
-use Rattle.text.proofs.All.{All, none-left, one-more}
+use Rattle.text.specs.All.{All, none-left, one-more}
 
 module _ {A : Type 0} {P : A → Type 0} where
   pub all-append : {xs ys : List A} → All P xs → All P ys → All P (xs ++ ys)

@@ -1,4 +1,3 @@
-pub mod All
 pub mod AllLaws
 pub mod AnswerLaws
 pub mod SumLaws

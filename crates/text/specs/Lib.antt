@@ -1,5 +1,6 @@
 pub mod Bytes
 pub mod Lists
+pub mod All
 pub mod Scan
 pub mod Classes
 pub mod Lines
