@@ -1,4 +1,4 @@
--- `relocate_names::kept_count` meets its contract.
+-- `relocate_kept::kept_count` meets its contract.
 use Prim.Native.Nat.{_+_, _-_, _≤_}
 use mathlib.Core.Path.{_≡_}
 use lib.ListN.{length, drop}

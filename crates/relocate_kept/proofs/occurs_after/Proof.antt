@@ -1,4 +1,4 @@
--- `relocate_names::occurs_after` meets its contract.
+-- `relocate_kept::occurs_after` meets its contract.
 use Prim.Native.Nat.{_-_}
 use mathlib.Core.Path.{_≡_}
 use lib.ListN.{length, drop}
