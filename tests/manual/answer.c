@@ -249,6 +249,8 @@ static void answer(const char *what)
                 run(bytes, length);
         } else if (!strcmp(what, "next")) {
             put_step(ola_next(bytes, length, number()));
+        } else if (!strcmp(what, "next_at")) {
+            put_step(ola_next_at(bytes, length, number()));
         } else {
             printf("fault no such call: %s\n", what);
         }
