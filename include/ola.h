@@ -96,10 +96,10 @@ ola_step ola_next(const uint8_t *text, size_t text_len, size_t line);
 /* The same from the byte at an offset on, and the offset after it. A run from offset 0 gives the same instructions and reads the text once. */
 ola_step ola_next_at(const uint8_t *text, size_t text_len, size_t offset);
 
-/* The words of one instruction. Refusals 21, 22 and 255. */
+/* The words of one instruction. Refusals 255, 21 and 22. */
 ola_encoding ola_encode(ola_instruction instruction);
 
-/* Writes the listing row of one instruction, without a line feed. Refusals 21, 24, 23 and 255. */
+/* Writes the listing row of one instruction, without a line feed. Refusals 255, 21, 24 and 23. */
 ola_written ola_listing_row(ola_instruction instruction, uint8_t *text, size_t text_len);
 
 #ifdef __cplusplus
