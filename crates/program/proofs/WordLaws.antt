@@ -12,10 +12,11 @@ use Rattle.vm_opcodes.specs.Operations.{operations, operationBit, bit, firstOpe
 use Rattle.vm_opcodes.specs.declared.OlaOpcode.{OlaOpcode}
 use Rattle.vm_opcodes.specs.declared.OpcodeFound.the-variants.{Is as IsOpcode, Nothing as NoOpcode}
 use Rattle.vm_opcodes.proofs.Laws.{agree, bit-most}
+use Rattle.vm_opcodes.proofs.Variants.{each}
 use Rattle.vm_hardware.specs.Registers.{registers, registerIndex, placeBit, firstRegister, registerIn as registerOfWord}
 use Rattle.vm_hardware.proofs.Laws.{index-lt}
 use Rattle.vm_hardware.specs.declared.OlaRegister.{OlaRegister}
-use Rattle.vm_hardware.specs.declared.OlaRegister.the-variants.{R0, R1, R2, R3, R4, R5, R6, R7, R8, R9}
+use Rattle.vm_hardware.proofs.OlaRegister.{enum}
 use Rattle.vm_hardware.specs.declared.Place.{Place}
 use Rattle.vm_hardware.specs.declared.Place.the-variants.{Op0, Op1, Dst}
 use Rattle.vm_hardware.specs.declared.RegisterFound.{RegisterFound}
@@ -83,16 +84,7 @@ field-bit w m v k h e =
 lowest-hot : (o : Option OlaRegister) → firstRegister (λ r. bit (registerIndex r) (hot o)) registers ≡ foundOf o
 unfolding registers firstRegister
 lowest-hot none = refl
-lowest-hot (some R0) = refl
-lowest-hot (some R1) = refl
-lowest-hot (some R2) = refl
-lowest-hot (some R3) = refl
-lowest-hot (some R4) = refl
-lowest-hot (some R5) = refl
-lowest-hot (some R6) = refl
-lowest-hot (some R7) = refl
-lowest-hot (some R8) = refl
-lowest-hot (some R9) = refl
+lowest-hot (some r) = each enum tt (λ q. firstRegister (λ p. bit (registerIndex p) (hot (some q))) registers) (λ q. foundOf (some q)) refl r
 
 register-found : (place : Place) (w : ℕ) (o : Option OlaRegister) → w / 2 ^ placeBit place % 2 ^ 10 ≡ hot o → registerOfWord place w ≡ foundOf o
 register-found place w o e =

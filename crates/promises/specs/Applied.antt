@@ -1,5 +1,5 @@
--- The promises applied: to document 01's printing source, to two prophets on one host, to carriage returns, and to pairs of sources that are one
--- contract and that are two.
+-- The promises applied: to document 01's printing source, to a label, to two prophets on one host, to carriage returns, and to pairs of sources that
+-- are one contract and that are two.
 use Prim.Native.Nat.{ℕ, zero, suc, _<_}
 use mathlib.Core.Path.{_≡_, refl, sym, ap, subst, _∙_}
 use mathlib.Core.List.{List, [], _∷_, map, zipWith}
@@ -16,7 +16,7 @@ use Rattle.text.specs.Answer.{Answer, ok, refused, _>>=_, _>>_, refuseIf, refus
 use Rattle.text_read.specs.Numerals.{digitValue, valueFrom, numeral}
 use Rattle.text_write.specs.Digits.{digitsOf, digitCount}
 use Rattle.vm_opcodes.specs.Operations.{operations, firstOperation}
-use Rattle.vm_opcodes.specs.declared.OlaOpcode.the-variants.{MOV, CALL, RET, END}
+use Rattle.vm_opcodes.specs.declared.OlaOpcode.the-variants.{MOV, JMP, CALL, RET, END}
 use Rattle.vm_hardware.specs.Registers.{registers, registerOf, specialOf}
 use Rattle.vm_hardware.specs.declared.OlaRegister.{OlaRegister}
 use Rattle.vm_hardware.specs.declared.OlaRegister.the-variants.{R1, R2}
@@ -26,12 +26,12 @@ use Rattle.vm_operands.specs.declared.OlaOperand.the-variants.{Empty, RegisterO
 use Rattle.asm.specs.Parts.{placed, filledParts, piecesFrom, linePieces, rowPieces, sourcePieces, textOf, nameAt}
 use Rattle.asm.specs.Operands.{shapes, firstMatch}
 use Rattle.asm.specs.Rows.{arranged, operandsOf, arrangedIf, isCallRow, isPairRow, labelRow, rowOf, instructions, readRows}
-use Rattle.asm.specs.declared.OlaAsmOperand.the-variants.{Empty as NoOperand, ImmediateOperand, RegisterOperand as ARegister, Identifier}
+use Rattle.asm.specs.declared.OlaAsmOperand.the-variants.{Empty as NoOperand, ImmediateOperand, RegisterOperand as ARegister, Label, Identifier}
 use Rattle.asm.specs.declared.OlaAsmInstruction.{OlaAsmInstruction}
 use Rattle.asm.specs.declared.AsmRow.{AsmRow}
-use Rattle.asm.specs.declared.AsmRow.the-variants.{Instruction, LabelCall, LabelProphet}
+use Rattle.asm.specs.declared.AsmRow.the-variants.{Instruction, LabelCall, LabelJmp, LabelProphet}
 use Rattle.relocate.specs.Scopes.{cutAtCalls, scopesThat, rowsOfScopes}
-use Rattle.relocate.specs.Labels.{callKind, labelRows, holder}
+use Rattle.relocate.specs.Labels.{callKind, jmpKind, labelRows, holder}
 use Rattle.relocate.specs.Prophets.{withoutLastEmpty, labelsAfterHead, listedLabels, hostsFrom, isIn, keptFrom}
 use Rattle.relocate.specs.Relocate.{firstAbove127, rowsRead, sortedOf, tabled, hostsOf}
 use Rattle.program.specs.Instructions.{made, aNumber}
@@ -39,7 +39,7 @@ use Rattle.program.specs.Words.{programWords, wordsBefore}
 use Rattle.program.specs.Groups.{grouped}
 use Rattle.program.specs.Bytecode.{linesOfGroups, joined, bytecodeOf, bytecodeWritten, textLeft}
 use Rattle.program.specs.declared.BinaryInstruction.{BinaryInstruction}
-use Rattle.encoder.specs.Canonical.{namesOf, general, memory, canonicalBy, canonicalFrom, firstMisplaced}
+use Rattle.encoder.specs.Canonical.{namesOf, canonicalProgram, general, memory, canonicalBy, canonicalFrom, firstMisplaced}
 use Rattle.encoder.specs.Assemble.{Room, Accepted, encodedRows, assembled, totalsOf, assembledTotals, wordsLeft}
 use Rattle.decoder.specs.Open.{opened, run}
 use Rattle.decoder.specs.Steps.{runAt, nthCall}
@@ -121,8 +121,8 @@ printing-clean : allClean (instructions printingRows) ≡ true
 unfolding allClean instructions
 printing-clean = refl
 
--- it has rows, four of them instructions
-printing-has-rows : (rows : List AsmRow) × (sortedOf printingSource ≡ ok rows) × (length (instructions rows) ≡ 4)
+-- it has rows, four of them instructions, and the program is theirs
+printing-has-rows : (rows : List AsmRow) × (sortedOf printingSource ≡ ok rows) × (canonicalProgram printingSource rows ≡ ok printingProgram) × (length (instructions rows) ≡ 4)
 printing-has-rows = accepted-has-rows printingSource [] plenty printingAccepted printing-accepted
 
 -- `call f` holds the count of the words before f's `ret`, which is 5
@@ -137,6 +137,53 @@ printing-call =
 
 printing-words-ahead : length (programWords (take 3 printingProgram)) ≡ wordsBefore printingProgram 3
 printing-words-ahead = words-ahead printingSource [] plenty printingAccepted printing-accepted 3
+
+-- ---- a label
+
+abbrev labelSource : List ℕ
+labelSource = bytes "main:\nmov r1 5\n.LBL1_1:\njmp .LBL1_1"
+
+abbrev labelProgram : List BinaryInstruction
+labelProgram = made MOV Empty (aNumber 5) (RegisterOperand R1) ∷ made JMP Empty (aNumber 2) Empty ∷ []
+
+abbrev labelAccepted : Accepted
+labelAccepted = record {
+  labels = 2;
+  program = labelProgram;
+  words = 0x4000000208000000 ∷ 5 ∷ 0x4000000004000000 ∷ 2 ∷ [];
+  hosts = [];
+}
+
+label-accepted : assembled labelSource [] plenty ≡ ok labelAccepted
+unfolding isSpace isDigit isLetter isWord same total scan all parts _>>=_ _>>_ refuseIf refuseAt digitValue valueFrom numeral operations firstOperation registers registerOf specialOf signed numberOf placed filledParts piecesFrom linePieces rowPieces shapes firstMatch arranged operandsOf arrangedIf isCallRow isPairRow labelRow rowOf nameAt cutAtCalls scopesThat rowsOfScopes instructions labelRows holder withoutLastEmpty labelsAfterHead listedLabels hostsFrom firstAbove127 readRows rowsRead sortedOf tabled hostsOf programWords general memory canonicalBy canonicalFrom firstMisplaced encodedRows assembled
+label-accepted = refl
+
+abbrev labelJump : OlaAsmInstruction
+labelJump = record { opcode = JMP; op0 = NoOperand; op1 = Label 28 7; dst = NoOperand }
+
+abbrev labelSorted : List AsmRow
+labelSorted =
+    LabelCall 0 4
+    ∷ Instruction (record { opcode = MOV; op0 = NoOperand; op1 = ImmediateOperand (record { number = 5 }); dst = ARegister R1 })
+    ∷ LabelJmp 15 7
+    ∷ Instruction labelJump
+    ∷ []
+
+label-sorted : sortedOf labelSource ≡ ok labelSorted
+unfolding isSpace isDigit isLetter isWord same scan all parts _>>=_ _>>_ refuseIf refuseAt digitValue valueFrom numeral operations firstOperation registers registerOf specialOf signed numberOf placed filledParts piecesFrom linePieces rowPieces shapes firstMatch arranged operandsOf arrangedIf isCallRow isPairRow labelRow rowOf nameAt cutAtCalls scopesThat rowsOfScopes firstAbove127 readRows rowsRead sortedOf
+label-sorted = refl
+
+label-clean : allClean (instructions labelSorted) ≡ true
+unfolding allClean instructions
+label-clean = refl
+
+-- `jmp .LBL1_1` holds the count of the words before itself, which is 2
+label-jump : HoldsCount (namesOf labelSource labelSorted) labelProgram jmpKind 28 7 (aNumber 2)
+unfolding instructions
+label-jump =
+    let x = names-are-word-counts labelSource [] plenty labelAccepted label-accepted labelSorted label-sorted label-clean 1 labelJump refl in
+    let e : made JMP Empty (aNumber 2) Empty ≡ x .0 = Option·some-injective _ _ (x .1) in
+    subst (λ (b : BinaryInstruction). HoldsCount (namesOf labelSource labelSorted) labelProgram jmpKind 28 7 (contentAt Op1 b)) (sym e) (x .2 Op1 28 7 .1 refl)
 
 -- ---- two prophets on one host
 
@@ -192,11 +239,12 @@ return-lines : bytes "main:" ∷ bytes "end" ∷ [] ≡ lines returnSource
 unfolding parts placed lines ended zipWith
 return-lines = rows-by-lines returnSource .1
 
-return-rows : sourcePieces returnSource ≡ rowPieces (record { start = 0; text = bytes "main:" } ∷ record { start = 7; text = bytes "end" } ∷ [])
-unfolding parts placed lines ended zipWith
+-- it has the rows of these lines, each with its place
+return-rows : rowsRead returnSource ≡ ok (LabelCall 0 4 ∷ Instruction (record { opcode = END; op0 = NoOperand; op1 = NoOperand; dst = NoOperand }) ∷ [])
+unfolding isSpace isDigit isLetter isWord same scan all parts lines ended zipWith _>>=_ _>>_ refuseIf refuseAt operations firstOperation placed filledParts piecesFrom linePieces rowPieces arranged arrangedIf isCallRow isPairRow labelRow rowOf firstAbove127 readRows
 return-rows = rows-by-lines returnSource .0
 
--- so it has the rows of the source with line feeds alone, but for the places
+-- and the pieces of the source with line feeds alone, but for the places
 return-same : map (map textOf) (sourcePieces returnSource) ≡ map (map textOf) (sourcePieces (bytes "main:\nend\n"))
 unfolding parts lines ended
 return-same = same-lines returnSource (bytes "main:\nend\n") refl

@@ -29,12 +29,12 @@ module _ (s prophets : List ℕ) (room : Room) (a : Accepted) (h : assembled s p
       let r = accepted-rows s prophets room a h in
       subst (λ (x : List AsmRow). canonicalProgram s x ≡ ok (a .program)) (ok-same (sym (r .sorted) ∙ e)) (r .canonical)
 
-  -- an accepted source has rows, and as many instructions as instruction rows
-  pub rows-there : (rows : List AsmRow) × (sortedOf s ≡ ok rows) × (length (instructions rows) ≡ length (a .program))
+  -- an accepted source has rows, its program is theirs, and it has as many instructions as instruction rows
+  pub rows-there : (rows : List AsmRow) × (sortedOf s ≡ ok rows) × (canonicalProgram s rows ≡ ok (a .program)) × (length (instructions rows) ≡ length (a .program))
   rows-there =
       let r = accepted-rows s prophets room a h in
       let names = namesOf s (r .rows) in
-      (r .rows, r .sorted, pairs-length names 0 (instructions (r .rows)) (a .program) (canonical-pairs names 0 (instructions (r .rows)) (a .program) (r .canonical)))
+      (r .rows, r .sorted, r .canonical, pairs-length names 0 (instructions (r .rows)) (a .program) (canonical-pairs names 0 (instructions (r .rows)) (a .program) (r .canonical)))
 
   pub names-counted : (rows : List AsmRow) → sortedOf s ≡ ok rows → allClean (instructions rows) ≡ true
       → (k : ℕ) (i : OlaAsmInstruction) → getElem? (instructions rows) k ≡ some i

@@ -14,22 +14,22 @@ use Rattle.text.specs.Lines.{lines}
 use Rattle.text.specs.Answer.{Answer, ok, refused, _>>=_}
 use Rattle.text.specs.All.{All, Ascending}
 use Rattle.vm_hardware.specs.declared.Place.{Place}
-use Rattle.asm.specs.Parts.{rowPieces, sourcePieces, textOf, placedLines}
+use Rattle.asm.specs.Parts.{sourcePieces, textOf, placedLines}
 use Rattle.asm.specs.Rows.{instructions}
 use Rattle.asm.specs.declared.OlaAsmOperand.the-variants.{Label, Identifier}
 use Rattle.asm.specs.declared.OlaAsmInstruction.{OlaAsmInstruction}
 use Rattle.asm.specs.declared.AsmRow.{AsmRow}
-use Rattle.asm_laws.proofs.LineLaws.{textRows, source-lines, lines-texts}
+use Rattle.asm_laws.proofs.LineLaws.{textRows, lines-texts}
 use Rattle.relocate.specs.Labels.{callKind, jmpKind}
 use Rattle.relocate.specs.Prophets.{placeOf, keptFrom}
-use Rattle.relocate.specs.Relocate.{sortedOf}
+use Rattle.relocate.specs.Relocate.{rowsRead, sortedOf}
 use Rattle.relocate_laws.proofs.KeptLaws.{places-ascend, later-kept as last-is-kept}
 use Rattle.program.specs.Words.{programWords, wordsBefore}
 use Rattle.program.specs.Bytecode.{bytecodeOf, bytecodeWritten, textLeft}
 use Rattle.program.specs.declared.BinaryInstruction.{BinaryInstruction}
 use Rattle.program.specs.CanonicalForm.{CanonicalForm, InOrder}
 use Rattle.program.proofs.FormLaws.{words-before}
-use Rattle.encoder.specs.Canonical.{namesOf}
+use Rattle.encoder.specs.Canonical.{namesOf, canonicalProgram}
 use Rattle.encoder.specs.Assemble.{Room, Accepted, assembled, totalsOf, assembledTotals, wordsLeft}
 use Rattle.decoder.specs.AsRead.{asRead, asCanonical}
 use Rattle.decoder.specs.Open.{opened, run}
@@ -37,8 +37,8 @@ use Rattle.decoder.specs.Steps.{runAt, nthCall}
 use Rattle.decoder.proofs.BytecodeLaws.{opens}
 use Rattle.decoder.proofs.OffsetLaws.{run-by-offsets as offsets-run}
 use Rattle.decoder.proofs.OpenedLaws.{opened-run as run-opened, opened-form as form-opened}
-use Rattle.promises.specs.Terms.{SameProgram, allClean, operandAt, contentAt, HoldsCount, IsKept}
-use Rattle.promises.specs.TieLaws.{left-front, bytecode-fits, nth-answer}
+use Rattle.promises.specs.Terms.{SameProgram, allClean, operandAt, contentAt, HoldsCount, IsKept, rowsByLines}
+use Rattle.promises.specs.TieLaws.{left-front, bytecode-fits, nth-answer, lines-read}
 use Rattle.promises.specs.SameLaws.{words-same, bytecode-same, program-alone}
 use Rattle.promises.specs.AcceptedLaws.{accepted-words, accepted-readable, accepted-short, accepted-form}
 use Rattle.promises.specs.NamePromise.{rows-there, names-counted}
@@ -137,10 +137,10 @@ module _ (s prophets : List ℕ) (room : Room) (a : Accepted) (h : assembled s p
   pub words-ahead : (n : ℕ) → length (programWords (take n (a .program))) ≡ wordsBefore (a .program) n
   words-ahead n = words-before (a .program) (accepted-form s prophets room a h) n
 
-  -- It has rows, and as many instructions as it has instruction rows.
+  -- It has rows, its program is the canonical program of these rows in sorted order, and there are as many instructions as instruction rows.
   -- Of encoder_assemble::assemble_parts, encoder_entries::assemble, ola_assemble_parts and ola_assemble: their words are this program's.
-  -- A reviewer may count on it that no row is left out and none is added.
-  pub accepted-has-rows : (rows : List AsmRow) × (sortedOf s ≡ ok rows) × (length (instructions rows) ≡ length (a .program))
+  -- A reviewer may count on it that no row is left out, none is added, and each became its instruction.
+  pub accepted-has-rows : (rows : List AsmRow) × (sortedOf s ≡ ok rows) × (canonicalProgram s rows ≡ ok (a .program)) × (length (instructions rows) ≡ length (a .program))
   accepted-has-rows = rows-there s prophets room a h
 
   -- Where no bracketed operand stands outside mload and mstore, the k-th instruction row has its k-th instruction, and each name in a place of the
@@ -171,11 +171,11 @@ module _ (s prophets : List ℕ) (room : Room) (a : Accepted) (h : assembled s p
 -- Any source: its rows are made of its lines as Rust's `lines` gives them, each from the place where it starts.
 -- Of encoder_assemble::assemble_parts, encoder_entries::assemble, ola_assemble_parts and ola_assemble, which read these rows.
 -- A reviewer may conclude that `\r\n` ends a line as `\n` does, that the last line's ending changes nothing, and where each line starts.
-pub rows-by-lines : (s : List ℕ) → (sourcePieces s ≡ rowPieces (placedLines s)) × (map textOf (placedLines s) ≡ lines s)
-rows-by-lines s = source-lines s
+pub rows-by-lines : (s : List ℕ) → (rowsRead s ≡ rowsByLines s) × (map textOf (placedLines s) ≡ lines s)
+rows-by-lines s = lines-read s
 
--- Two sources with the same lines have the same rows but for the places of their pieces.
+-- Two sources with the same lines have rows of the same pieces, but for the places of the pieces.
 -- Of the same functions.
--- A reviewer may change the line endings of a source and read the same rows.
+-- A reviewer may change the line endings of a source and find the same pieces in the same rows, as long as the source does not pass 65,536 bytes by it.
 pub same-lines : (s t : List ℕ) → lines s ≡ lines t → map (map textOf) (sourcePieces s) ≡ map (map textOf) (sourcePieces t)
 same-lines s t e = lines-texts s ∙ ap textRows e ∙ sym (lines-texts t)

@@ -1,20 +1,27 @@
--- The words of the promises: the same program, where names stand, and which prophets are kept.
+-- The words of the promises: the same program, where names stand, which prophets are kept, and rows by lines.
 use Prim.Native.Nat.{ℕ, _%_}
 use mathlib.Core.Path.{_≡_}
 use mathlib.Core.List.{List, [], _∷_, map, List·Memᴰ}
 use mathlib.Core.Bool.{Bool, true, false, not, _&&_, _||_}
 use mathlib.Core.Option.{some}
+use lib.Dec.{ltb}
+use lib.ListN.{length}
+use Rattle.text.specs.Answer.{Answer, _>>_, refuseIf, refuseAt}
 use Rattle.vm_hardware.specs.declared.Place.{Place}
 use Rattle.vm_hardware.specs.declared.Place.the-variants.{Op0, Op1, Dst}
 use Rattle.vm_operands.specs.Numbers.{order, immediate}
 use Rattle.vm_operands.specs.declared.ImmediateValue.{ImmediateValue}
 use Rattle.vm_operands.specs.declared.OlaOperand.{OlaOperand}
 use Rattle.vm_operands.specs.declared.OlaOperand.the-variants.{Empty, ImmediateOperand, RegisterOperand, RegisterWithOffset, RegisterWithFactor, SpecialReg}
+use Rattle.asm.specs.Parts.{rowPieces, placedLines}
+use Rattle.asm.specs.Rows.{readRows}
 use Rattle.asm.specs.declared.OlaAsmOperand.{OlaAsmOperand}
 use Rattle.asm.specs.declared.OlaAsmOperand.the-variants.{Empty as NoOperand, ImmediateOperand as ANumber, RegisterOperand as ARegister, RegisterWithOffset as AnOffset, RegisterWithFactoredRegOffset as AFactor, SpecialReg as ASpecial, Label, Identifier}
 use Rattle.asm.specs.declared.OlaAsmInstruction.{OlaAsmInstruction}
+use Rattle.asm.specs.declared.AsmRow.{AsmRow}
 use Rattle.relocate.specs.Labels.{LabelRow}
 use Rattle.relocate.specs.Prophets.{keptFrom}
+use Rattle.relocate.specs.Relocate.{firstAbove127}
 use Rattle.program.specs.Instructions.{made, aNumber, isMemory}
 use Rattle.program.specs.Words.{wordsBefore}
 use Rattle.program.specs.declared.BinaryInstruction.{BinaryInstruction}
@@ -82,3 +89,12 @@ HoldsCount names program kind start n content =
 -- the prophet at place k of the list is kept, on host h
 abbrev pub IsKept : List ℕ → ℕ → ℕ → Type 0
 IsKept hosts k h = List·Memᴰ (record { host = h; place = k }) (keptFrom 0 hosts)
+
+-- ---- lines
+
+-- refusals 1 to 3 and the rows of a source, by the lines that Rust's `lines` gives
+abbrev pub rowsByLines : List ℕ → Answer (List AsmRow)
+rowsByLines s = do
+  refuseIf (ltb 65536 (length s)) 1
+  refuseAt (firstAbove127 0 s) 2
+  readRows 0 (rowPieces (placedLines s))

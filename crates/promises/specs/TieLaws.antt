@@ -5,9 +5,16 @@ use mathlib.Core.List.{List, [], _∷_, _++_, map}
 use native.Mathlib.Omega.{arith}
 use native.Mathlib.Nat.{sub-zero, suc-sub-suc}
 use borrow.Author.Tests.{le-ltb}
+use lib.Dec.{ltb}
 use lib.ListN.{length, take, drop, getD, replicate, getD-replicate}
-use Rattle.text.specs.Answer.{Answer, ok, refused, _>>_, refuseIf, over, onOk}
+use Rattle.text.specs.Lines.{lines}
+use Rattle.text.specs.Answer.{Answer, ok, refused, _>>_, refuseIf, refuseAt, over, onOk}
+use Rattle.asm.specs.Parts.{Part, textOf, placedLines}
+use Rattle.asm.specs.Rows.{readRows}
+use Rattle.asm_laws.proofs.LineLaws.{source-lines}
+use Rattle.relocate.specs.Relocate.{firstAbove127, rowsRead}
 use Rattle.program.specs.Bytecode.{bytecodeOf, within, bytecodeWritten, textLeft}
+use Rattle.promises.specs.Terms.{rowsByLines}
 
 -- what lies over old entries is at the start
 pub over-front : {A : Type 0} (new old : List A) → take (length new) (over new old) ≡ new
@@ -39,3 +46,10 @@ nth-answer d k [] = ap (λ n. getD (replicate n d) k d) (sub-zero (suc k)) ∙ g
 nth-answer d zero (x ∷ xs) = refl
 nth-answer d (suc k) (x ∷ xs) =
     ap (λ n. getD (map ok (take (suc k) xs) ++ replicate n d) k d) (suc-sub-suc (suc k) (length xs)) ∙ nth-answer d k xs
+
+-- the rows of a source are those by its lines
+pub lines-read : (s : List ℕ) → (rowsRead s ≡ rowsByLines s) × (map textOf (placedLines s) ≡ lines s)
+unfolding rowsRead
+lines-read s =
+    let x = source-lines s in
+    (ap (λ (ps : List (List Part)). refuseIf (ltb 65536 (length s)) 1 >> (refuseAt (firstAbove127 0 s) 2 >> readRows 0 ps)) (x .0), x .1)
