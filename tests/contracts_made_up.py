@@ -3,6 +3,7 @@
 MADE_UP is a project of its own, its files by their paths. In crates/made/src/below/wrong.rt each function must be found wrong, for the reason that the
 comment above it begins with and for no other; in the other files each must be found right.
 FILES are texts of files that cannot be read whole, each with the reason, and some that can.
+ORDERS are texts like crates.txt with a `program` and a `part` of test programs, each with the crates that are at fault in it.
 """
 import re
 
@@ -342,3 +343,9 @@ FILES = [
 ]
 
 MADE_UP_MAPS = {f'made.Maps.{name}' for name in re.findall(r'abbrev pub (\w+)', MADE_UP['crates/made/specs/Maps.antt'])} - {'made.Maps.kindUnlisted'}
+
+ORDERS = [
+    ('below:\npart: below\nprogram: part below\n', []),
+    ('part:\nlibrary: part\nprogram: library part\n', ['library']),
+    ('part:\nlibrary:\nprogram: library\n', ['part']),
+]

@@ -1,25 +1,23 @@
 // The cases of assembling.
-use crate::answers::Answer;
-use crate::answers::put;
-use crate::answers::put_byte;
-use crate::answers::put_head;
-use crate::answers::put_number;
-use crate::answers::put_numbers;
-use crate::answers::put_space;
-use crate::answers::put_words;
-use crate::fields::EQUALS;
-use crate::fields::FAULT;
-use crate::fields::SPACE;
-use crate::fields::TAB;
-use crate::fields::count_of;
-use crate::fields::first_of;
-use crate::fields::part;
-use crate::fields::parted;
-use crate::fields::unescape;
-use crate::fields::within;
-use encoder::Assembly;
 use ola_answers::OlaAssembly;
 use relocate::AddressFound;
+use replay_lines::answers::Answer;
+use replay_lines::answers::put;
+use replay_lines::answers::put_byte;
+use replay_lines::answers::put_head;
+use replay_lines::answers::put_number;
+use replay_lines::answers::put_space;
+use replay_lines::fields::EQUALS;
+use replay_lines::fields::FAULT;
+use replay_lines::fields::SPACE;
+use replay_lines::fields::TAB;
+use replay_lines::fields::count_of;
+use replay_lines::fields::first_of;
+use replay_lines::fields::part;
+use replay_lines::fields::parted;
+use replay_lines::fields::unescape;
+use replay_lines::fields::within;
+use replay_lines::programs::put_program;
 
 // What assembling answered and wrote. The table's entries past those lent are zeros and not mapped.
 struct Assembled {
@@ -31,37 +29,6 @@ struct Assembled {
     addresses: [u64; 512],
     words: [u64; 512],
     hosts: [u64; 512],
-}
-
-// The last place of a host.
-fn last_place(hosts: &[u64], host: u64) -> u64 {
-    let mut found: usize = 0;
-    let mut i: usize = 0;
-    while i < hosts.len() {
-        if hosts[i] == host {
-            found = i;
-        }
-        i += 1;
-    }
-    found as u64
-}
-
-// The i-th host that is kept, with the last place that it has in the list. Which it is is asked by the items.
-fn put_host(answer: Answer, items: &[u8], i: usize, hosts: &[u64]) -> Answer {
-    let host = count_of(parted(parted(items, SPACE, i), EQUALS, 0)) as u64;
-    let start = put_number(put_space(answer, i), host);
-    put_number(put_byte(start, EQUALS), last_place(hosts, host))
-}
-
-// As many hosts as are kept.
-fn put_kept(answer: Answer, items: &[u8], hosts: &[u64], kept: usize) -> Answer {
-    let mut out = put_byte(answer, TAB);
-    let mut i: usize = 0;
-    while i < kept {
-        out = put_host(out, items, i, hosts);
-        i += 1;
-    }
-    out
 }
 
 // The address of the row among the first so many entries that holds a name of a kind, FAULT where there is none.
@@ -87,23 +54,18 @@ fn address_of(source: &[u8], done: Assembled, n: usize, kind: u8, name: &[u8]) -
     }
 }
 
-// Whether an entry is mapped, of a kind, and the first that holds its name.
+// Whether an entry is the first that holds a name of a kind: with it the name is held, and without it not yet.
 fn is_first(source: &[u8], done: Assembled, i: usize, kind: u8) -> bool {
-    let kinds = done.kinds;
-    let mapped = done.mapped;
     let starts = done.starts;
     let lengths = done.lengths;
     if 512 <= i {
         return false;
     }
-    if !mapped[i] {
-        return false;
-    }
-    if kinds[i] != kind {
-        return false;
-    }
     let name = relocate_names::name_at(source, starts[i], lengths[i]);
-    address_of(source, done, i, kind, name) == FAULT as u64
+    if address_of(source, done, i, kind, name) != FAULT as u64 {
+        return false;
+    }
+    address_of(source, done, i + 1, kind, name) != FAULT as u64
 }
 
 // How many names of a kind are mapped.
@@ -148,67 +110,22 @@ fn put_addresses(answer: Answer, items: &[u8], source: &[u8], done: Assembled, k
     out
 }
 
-// The words, the hosts and the hosts kept. The text lent for the bytecode has just the room that the line says: each of its line feeds stands
-// there as two bytes.
-fn put_lists(line: &[u8], words: &[u64], hosts: &[u64], kept: u64) -> Answer {
-    let said = parted(line, TAB, 7).len() + 1;
-    if said < words.len() {
-        return put_head(99, 0);
-    }
-    let answer = put_numbers(put_words(words, said - words.len()), hosts);
-    put_kept(answer, parted(line, TAB, 9), hosts, kept as usize)
-}
-
-// The same of what was assembled.
-fn put_program(line: &[u8], done: Assembled) -> Answer {
-    let found = done.found;
-    let words = done.words;
-    let hosts = done.hosts;
-    put_lists(
-        line,
-        first_of(&words, found.words as usize),
-        first_of(&hosts, found.hosts as usize),
-        found.kept,
-    )
-}
-
 // What assembling answered and wrote.
 fn put_assembly(line: &[u8], source: &[u8], done: Assembled) -> Answer {
     let found = done.found;
     if found.refusal != 0 {
         return put_head(found.refusal, found.detail);
     }
-    let calls = put_addresses(
-        put_program(line, done),
-        parted(line, TAB, 10),
-        source,
-        done,
-        0,
+    let words = done.words;
+    let hosts = done.hosts;
+    let program = put_program(
+        line,
+        first_of(&words, found.words as usize),
+        first_of(&hosts, found.hosts as usize),
+        found.kept,
     );
+    let calls = put_addresses(program, parted(line, TAB, 10), source, done, 0);
     put_addresses(calls, parted(line, TAB, 11), source, done, 1)
-}
-
-// What was answered and written, in one struct.
-fn gathered(
-    answer: Assembly,
-    kinds: [u8; 512],
-    mapped: [bool; 512],
-    starts: [usize; 512],
-    lengths: [usize; 512],
-    addresses: [u64; 512],
-    words: [u64; 512],
-    hosts: [u64; 512],
-) -> Assembled {
-    Assembled {
-        found: ola_answers::assembly_out(answer),
-        kinds,
-        mapped,
-        starts,
-        lengths,
-        addresses,
-        words,
-        hosts,
-    }
 }
 
 // Assembles with room for so many entries, words and hosts, at most 512.
@@ -234,7 +151,16 @@ fn assemble(source: &[u8], prophets: &[u8], e: usize, w: usize, h: usize) -> Ass
         &mut words[..word_room],
         &mut hosts[..host_room],
     );
-    gathered(out, kinds, mapped, starts, lengths, addresses, words, hosts)
+    Assembled {
+        found: ola_answers::assembly_out(out),
+        kinds,
+        mapped,
+        starts,
+        lengths,
+        addresses,
+        words,
+        hosts,
+    }
 }
 
 // Assembling a source with the prophet list and the room of a line.

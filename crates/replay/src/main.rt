@@ -3,21 +3,21 @@
 // byte stand for N of that byte. A line that begins with # is a comment. Prints for each file its name, each line that differs, how many cases it
 // has and how many differ, how many are accepted, and how many cases of each refusal agree. A line that cannot be read differs.
 // The port's answer is written as the line says its own, but for escapes, and the two are compared byte by byte. One that does not fit differs.
-mod answers;
 mod assembling;
-mod fields;
-mod reading;
 
-use answers::Answer;
-use fields::SPACE;
-use fields::TAB;
-use fields::count_of;
-use fields::mark_place;
-use fields::part;
-use fields::parted;
-use fields::start_of;
-use fields::unescape;
 use libc::STDOUT_FILENO;
+use replay_lines::answers;
+use replay_lines::answers::Answer;
+use replay_lines::answers::is_said;
+use replay_lines::fields::SPACE;
+use replay_lines::fields::TAB;
+use replay_lines::fields::count_of;
+use replay_lines::fields::mark_place;
+use replay_lines::fields::part;
+use replay_lines::fields::parted;
+use replay_lines::fields::start_of;
+use replay_lines::fields::unescape;
+use replay_lines::reading;
 
 // Where the tally counts the cases that differ, and all cases. One that agrees is counted at its refusal, at 0 where it is accepted.
 const DIFFERS: u64 = 99;
@@ -70,13 +70,7 @@ fn put_answer(function: usize, line: &[u8], given: &[u8]) -> Answer {
 
 // Where the tally counts a case whose line says this answer, if the port answers so.
 fn verdict(said: &[u8], answer: Answer) -> u64 {
-    let mut text = [0u8; 4096];
-    let n = unescape(said, &mut text);
-    let bytes = answer.bytes;
-    if 4096 < answer.count {
-        return DIFFERS;
-    }
-    if text::same_bytes(part(&text, 0, n), part(&bytes, 0, answer.count)) {
+    if is_said(answer, said) {
         return answer.refusal;
     }
     DIFFERS

@@ -61,8 +61,8 @@ slice-aggregate-assemble-parts-7 c = sym (length-take-le _ _ (omega arith))
 assemble-parts-requires : tie.Need-assemble-parts-requires
 assemble-parts-requires c κs = search needs
 
-gathered-requires : tie.Need-gathered-requires
-gathered-requires c κs = search needs
+assembly-out-requires : tie.Need-assembly-out-requires
+assembly-out-requires c κs = search needs
 
 returns : tie.Need-returns
 returns c = search needs
@@ -89,5 +89,5 @@ assemble-spec =
     array-borrow-prefix-hosts
     slice-aggregate-assemble-parts-7
     assemble-parts-requires
-    gathered-requires
+    assembly-out-requires
     returns)
