@@ -1,5 +1,5 @@
--- Inputs that separate likely misreadings of operand shapes, rows, counted lengths and surveys, by computation. Expected values: document 01,
--- READINGS 1 to 5 and 11, and the patterns of assembler/src/operands.rs and assembler/src/asm.rs.
+-- Inputs that separate likely misreadings of operand shapes, rows, counted lengths and surveys, by computation. Expected values: documents 01 and
+-- 02 (Point 1, words), READINGS 1 to 5 and 11, and the patterns of assembler/src/operands.rs and assembler/src/asm.rs.
 use Prim.Native.Nat.{ℕ}
 use mathlib.Core.Path.{_≡_, refl}
 use mathlib.Core.List.{List, [], _∷_, map}
@@ -18,7 +18,7 @@ use Rattle.vm_operands.specs.Numbers.{immediate, signed, numberOf}
 use Rattle.asm.specs.Parts.{Part, placed, filledParts, piecesFrom, linePieces, rowPieces, nameAt, sourcePieces}
 use Rattle.asm.specs.Operands.{shapes, firstMatch, operandOf}
 use Rattle.asm.specs.Rows.{arranged, operandsOf, arrangedIf, isCallRow, isPairRow, labelRow, rowOf, readRows, instruction, instructions, countedLength}
-use Rattle.asm.specs.Survey.{countRows, firstCall, mainStart, mainEnd, surveyFrom, surveyOf}
+use Rattle.asm.specs.Survey.{wordCount, countRows, firstCall, mainStart, mainEnd, surveyFrom, surveyOf}
 use Rattle.asm.specs.declared.OlaAsmOperand.{OlaAsmOperand}
 use Rattle.asm.specs.declared.OlaAsmOperand.the-variants.{Empty, ImmediateOperand, RegisterOperand, RegisterWithOffset, RegisterWithFactoredRegOffset, SpecialReg, Label, Identifier}
 use Rattle.asm.specs.declared.OperandRead.{OperandRead}
@@ -134,28 +134,37 @@ rowCases =
     ∷ ((114 ∷ 101 ∷ 116 ∷ 28 ∷ []), NoRow ∷ [])
     ∷ []
 
--- the counted length of the first row, where it is an instruction
-abbrev lengthOf : List RowRead → Option ℕ
+-- the counted length and the words of the first row, where it is an instruction
+abbrev lengthOf : List RowRead → Option (ℕ × ℕ)
 lengthOf [] = none
 lengthOf (NoRow ∷ rs) = none
-lengthOf (IsRow (Instruction i) ∷ rs) = some (countedLength i)
+lengthOf (IsRow (Instruction i) ∷ rs) = some (countedLength i, wordCount i)
 lengthOf (IsRow (LabelCall a n) ∷ rs) = none
 lengthOf (IsRow (LabelJmp a n) ∷ rs) = none
 lengthOf (IsRow (LabelProphet a n) ∷ rs) = none
 
-abbrev lengthCases : List (List ℕ × Option ℕ)
+abbrev lengthCases : List (List ℕ × Option (ℕ × ℕ))
 lengthCases =
-    (bytes "mstore 5 6", some 3)
-    ∷ (bytes "cjmp f 6", some 3)
-    ∷ (bytes "mov 5 r1", some 1)
-    ∷ (bytes "mov r1 5", some 2)
-    ∷ (bytes "mov r1 [r2]", some 2)
-    ∷ (bytes "mov r1 pc", some 1)
-    ∷ (bytes "mload r1 [r2]", some 2)
-    ∷ (bytes "mstore [r2,r3] r1", some 2)
-    ∷ (bytes "add r1 r2 r3", some 1)
-    ∷ (bytes "jmp .LBL1_1", some 2)
-    ∷ (bytes "end", some 1)
+    (bytes "cjmp f 6", some (3, 2))
+    ∷ (bytes "mov 5 r1", some (1, 1))
+    ∷ (bytes "mov r1 5", some (2, 2))
+    ∷ (bytes "mov r1 [r2]", some (2, 1))
+    ∷ (bytes "mov r1 [r2,r3]", some (2, 1))
+    ∷ (bytes "mov r1 pc", some (1, 1))
+    -- two reasons for a second word, and still no third
+    ∷ (bytes "mstore 5 6", some (3, 2))
+    ∷ (bytes "mstore [r1] 5", some (3, 2))
+    ∷ (bytes "mload r1 5", some (2, 2))
+    ∷ (bytes "mstore [r2,r3] r1", some (2, 2))
+    ∷ (bytes "mload r1 [r2]", some (2, 2))
+    -- more words than are counted, which 11 turns away
+    ∷ (bytes "mload r1 r2", some (1, 2))
+    -- op0 takes no word, which 12 turns away
+    ∷ (bytes "add r1 5 r2", some (2, 1))
+    ∷ (bytes "add r1 r2 r3", some (1, 1))
+    ∷ (bytes "jmp .LBL1_1", some (2, 2))
+    ∷ (bytes "jmp nowhere", some (2, 2))
+    ∷ (bytes "end", some (1, 1))
     ∷ []
 
 -- rows, label rows, instructions and mains; counted length and words; where the first call label and main's scope start, and where that ends

@@ -26,7 +26,7 @@ fn counted(operand: OlaAsmOperand) -> usize
     }
 }
 
-// The counted length of an instruction row: 1, plus 1 for op0 and 1 for op1 where it is a number, name, label or bracketed.
+// The counted length of an instruction row: 1, and 1 more for each of op0 and op1 that holds anything but a register, pc or psp.
 pub fn binary_length(instruction: OlaAsmInstruction) -> usize
     ensures { λ r. ⌜ r ≡ countedLength instruction ⌝ }
 {
@@ -68,7 +68,7 @@ fn takes_word(operand: OlaAsmOperand) -> bool
     }
 }
 
-// The words of an instruction row: one, and one more for mload, mstore or an op1 that is a number, name or label.
+// The words of an instruction row: two of mload and mstore and where op1 is a number, a name or a label, else one.
 pub fn word_count(instruction: OlaAsmInstruction) -> usize
     ensures { λ r. ⌜ r ≡ wordCount instruction ⌝ }
 {

@@ -1,7 +1,9 @@
-// Assembling over parallel slices, on document 01's printing source: the counts, the label table and the prophet's host. The README shows these calls.
+// Room, then assembling over parallel slices, on document 01's printing source: the figures before the build, the counts after it, the label table and
+// the prophet's host. The README shows these calls.
 use encoder::Assembly;
 use libc::STDOUT_FILENO;
 use relocate::LabelEntry;
+use relocate::RoomFound;
 use relocate::WordAddress;
 
 const SOURCE: [u8; 46] = *b"f:\nret\nmain:\nmov r1 -1\ncall f\n.PROPHET0_0:\nend";
@@ -12,6 +14,21 @@ const PROPHETS: [u8; 17] = *b"label\n.PROPHET0_0";
 fn print_count(count: usize, name: &[u8]) {
     io::print_decimal(STDOUT_FILENO, count as u64);
     io::write_all(STDOUT_FILENO, name);
+}
+
+// What a source takes.
+fn print_room(room: RoomFound) {
+    match room {
+        RoomFound::Refused(refusal) => {
+            io::write_all(STDOUT_FILENO, b"refused\n");
+        }
+        RoomFound::Is(figures) => {
+            print_count(figures.labels, b" label rows\n");
+            print_count(figures.instructions, b" instructions\n");
+            print_count(figures.counted, b" counted\n");
+            print_count(figures.words, b" words\n");
+        }
+    }
 }
 
 // The counts of an accepted source.
@@ -61,6 +78,7 @@ fn print_place(
 }
 
 fn main() {
+    print_room(relocate_measure::room_of(&SOURCE));
     let mut kinds = [0u8; 8];
     let mut mapped = [false; 8];
     let mut starts = [0usize; 8];

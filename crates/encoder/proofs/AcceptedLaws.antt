@@ -4,6 +4,7 @@ use mathlib.Core.Path.{_≡_, refl, sym, ap, _∙_, subst}
 use mathlib.Core.List.{List, [], _∷_}
 use mathlib.Core.Bool.{Bool, true, false, _||_, cond, true≢false}
 use mathlib.Core.Option.{Option, none, some, Option·some-ne-none}
+use lib.ListN.{length}
 use Rattle.text.specs.Answer.{ok}
 use Rattle.text.specs.All.{All, none-left, one-more}
 use Rattle.text.proofs.AnswerLaws.{not-ok, ok-same, ok-bind, if-passed, at-passed}
@@ -14,12 +15,13 @@ use Rattle.vm_operands.specs.declared.ImmediateValue.{ImmediateValue}
 use Rattle.vm_operands.specs.declared.OlaOperand.{OlaOperand}
 use Rattle.vm_operands.specs.declared.OlaOperand.the-variants.{ImmediateOperand as ANumber}
 use Rattle.asm.specs.Rows.{instructions}
+use Rattle.asm.specs.Survey.{isMemoryRow}
 use Rattle.asm.specs.declared.OlaAsmOperand.{OlaAsmOperand}
 use Rattle.asm.specs.declared.OlaAsmOperand.the-variants.{Empty, ImmediateOperand, RegisterOperand, RegisterWithOffset, RegisterWithFactoredRegOffset, SpecialReg, Label, Identifier}
 use Rattle.asm.specs.declared.OlaAsmInstruction.{OlaAsmInstruction}
 use Rattle.asm.specs.declared.AsmRow.{AsmRow}
 use Rattle.asm_laws.proofs.NumberLaws.{OperandBelow, OperandsBelow}
-use Rattle.relocate.specs.Labels.{LabelRow, addressOf}
+use Rattle.relocate.specs.Labels.{LabelRow, labelRows, addressOf}
 use Rattle.relocate.specs.Relocate.{sortedOf, tabled, hostsOf}
 use Rattle.program.specs.Instructions.{made, aNumber, isNumber, carried, isMemory}
 use Rattle.program.specs.Words.{programWords}
@@ -27,13 +29,14 @@ use Rattle.program.specs.declared.BinaryInstruction.{BinaryInstruction}
 use Rattle.program.specs.CanonicalForm.{orEmpty, CanonicalForm, plain as registers, numbered, offset, factored, BelowOrder, no-number, below, InOrder}
 use Rattle.encoder.specs.Canonical.{Names, namesOf, holderOf, lookedUp, plain, canonicalOf, canonicalFrom, canonicalProgram, firstMisplaced}
 use Rattle.encoder.specs.Assemble.{Room, Accepted, encodedRows, assembled}
-use Rattle.encoder.proofs.Origins.{memory-rows, isMemoryRow, Anchored, by-offset, by-factor, Origin, ordinary, load, store, canonical-origin}
+use Rattle.encoder.proofs.Origins.{memory-rows, Anchored, by-offset, by-factor, Origin, ordinary, load, store, canonical-origin}
 
 -- ---- the rows of an accepted source
 
 pub record AcceptedRows (s prophets : List ℕ) (a : Accepted) : Type 0 where
   pub rows : List AsmRow
   pub sorted : sortedOf s ≡ ok rows
+  pub labels : a .labels ≡ length (labelRows 0 rows)
   pub canonical : canonicalProgram s rows ≡ ok (a .program)
   pub placed : firstMisplaced 0 (a .program) ≡ none
   pub words : a .words ≡ programWords (a .program)
@@ -57,6 +60,7 @@ accepted-rows s prophets room a e =
     subst (AcceptedRows s prophets) (ok-same (w .1)) (record {
       rows = t .0;
       sorted = tabled-sorted s (room .entries) (t .0) (t .1);
+      labels = refl;
       canonical = p .1;
       placed = m .0;
       words = refl;

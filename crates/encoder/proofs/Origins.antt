@@ -1,7 +1,7 @@
 -- Where a canonical instruction comes from: each place resolved by itself, or the memory operand and the value of mload and mstore.
 use Prim.Native.Nat.{ℕ}
 use mathlib.Core.Path.{_≡_, refl, ap, _∙_, subst}
-use mathlib.Core.Bool.{Bool, true, false}
+use mathlib.Core.Bool.{false}
 use Rattle.text.specs.Answer.{ok, _>>=_}
 use Rattle.text.proofs.AnswerLaws.{not-ok, ok-same, ok-bind}
 use Rattle.vm_opcodes.specs.Operations.{operations, rowPlaces}
@@ -12,6 +12,7 @@ use Rattle.vm_opcodes.specs.declared.RowPlaces.the-variants.{DstOp0Op1, DstOp1,
 use Rattle.vm_hardware.specs.declared.OlaRegister.{OlaRegister}
 use Rattle.vm_operands.specs.declared.ImmediateValue.{ImmediateValue}
 use Rattle.vm_operands.specs.declared.OlaOperand.the-variants.{ImmediateOperand as ANumber, RegisterOperand as ARegister, RegisterWithFactor as AFactor}
+use Rattle.asm.specs.Survey.{isMemoryRow}
 use Rattle.asm.specs.declared.OlaAsmOperand.{OlaAsmOperand}
 use Rattle.asm.specs.declared.OlaAsmOperand.the-variants.{Empty, ImmediateOperand, RegisterOperand, RegisterWithOffset, RegisterWithFactoredRegOffset, SpecialReg, Label, Identifier}
 use Rattle.asm.specs.declared.OlaAsmInstruction.{OlaAsmInstruction}
@@ -20,15 +21,6 @@ use Rattle.program.specs.declared.BinaryInstruction.{BinaryInstruction}
 use Rattle.encoder.specs.Canonical.{Names, plain, general, anchored, memory, canonicalBy, canonicalOf}
 
 -- ---- mload and mstore by their rows
-
-abbrev pub isMemoryRow : RowPlaces → Bool
-isMemoryRow DstOp0Op1 = false
-isMemoryRow DstOp1 = false
-isMemoryRow DstMemory = true
-isMemoryRow MemoryDst = true
-isMemoryRow Op0Op1 = false
-isMemoryRow Op1 = false
-isMemoryRow Bare = false
 
 -- mload and mstore are the operations whose rows have a memory operand
 pub memory-rows : (o : OlaOpcode) → isMemory o ≡ isMemoryRow (rowPlaces o)

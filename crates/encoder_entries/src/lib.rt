@@ -8,7 +8,7 @@ ghost use Rattle.encoder.specs.Assemble.{numbered, assembled, assembledTotals, 
 
 // Assembles a source with a prophet list: the label table, the words and the hosts.
 // Promises: counts-answered, words-left, same-words, same-bytecode, one-program, words-ahead, accepted-has-rows, names-are-word-counts, later-kept,
-// kept-counted, rows-by-lines, same-lines.
+// kept-counted, rows-by-lines, same-lines, room-is-built, room-refused, room-suffices, room-never-short.
 pub fn assemble(
     source: &[u8],
     prophets: &[u8],

@@ -1,6 +1,6 @@
--- The promises applied: to document 01's printing source, to a label, to two prophets on one host, to carriage returns, and to pairs of sources that
--- are one contract and that are two.
-use Prim.Native.Nat.{ℕ, zero, suc, _<_}
+-- The promises applied: to document 01's printing source, to two mains, to a label, to two prophets on one host, to carriage returns, and to pairs of
+-- sources that are one contract and that are two.
+use Prim.Native.Nat.{ℕ, zero, suc, _≤_, _<_}
 use mathlib.Core.Path.{_≡_, refl, sym, ap, subst, _∙_}
 use mathlib.Core.List.{List, [], _∷_, map, zipWith}
 use mathlib.Core.Bool.{Bool, true, false}
@@ -13,6 +13,7 @@ use Rattle.text.specs.Scan.{scan, all, parts}
 use Rattle.text.specs.Lines.{lines, ended}
 use Rattle.text.specs.All.{Ascending}
 use Rattle.text.specs.Answer.{Answer, ok, refused, _>>=_, _>>_, refuseIf, refuseAt}
+use Rattle.text.proofs.AnswerLaws.{ok-same}
 use Rattle.text_read.specs.Numerals.{digitValue, valueFrom, numeral}
 use Rattle.text_write.specs.Digits.{digitsOf, digitCount}
 use Rattle.vm_opcodes.specs.Operations.{operations, firstOperation}
@@ -34,6 +35,8 @@ use Rattle.relocate.specs.Scopes.{cutAtCalls, scopesThat, rowsOfScopes}
 use Rattle.relocate.specs.Labels.{callKind, jmpKind, labelRows, holder}
 use Rattle.relocate.specs.Prophets.{withoutLastEmpty, labelsAfterHead, listedLabels, hostsFrom, isIn, keptFrom}
 use Rattle.relocate.specs.Relocate.{firstAbove127, rowsRead, sortedOf, tabled, hostsOf}
+use Rattle.relocate.specs.Room.{roomOf}
+use Rattle.relocate.specs.declared.RoomFigures.{RoomFigures}
 use Rattle.program.specs.Instructions.{made, aNumber}
 use Rattle.program.specs.Words.{programWords, wordsBefore}
 use Rattle.program.specs.Groups.{grouped}
@@ -45,7 +48,7 @@ use Rattle.decoder.specs.Open.{opened, run}
 use Rattle.decoder.specs.Steps.{runAt, nthCall}
 use Rattle.promises.specs.Terms.{SameProgram, allClean, contentAt, HoldsCount, IsKept}
 use Rattle.promises.specs.Starred.{plenty, printingSource}
-use Rattle.promises.specs.Promises.{counts-answered, words-left, bytecode-left, run-by-offsets, nth-reads, same-words, same-bytecode, one-program, bytecode-opens, run-reads, words-ahead, accepted-has-rows, names-are-word-counts, later-kept, kept-counted, rows-by-lines, same-lines}
+use Rattle.promises.specs.Promises.{counts-answered, words-left, bytecode-left, room-is-built, words-within-counted, room-refused, room-suffices, room-never-short, run-by-offsets, nth-reads, same-words, same-bytecode, one-program, bytecode-opens, run-reads, words-ahead, accepted-has-rows, names-are-word-counts, later-kept, kept-counted, rows-by-lines, same-lines}
 
 -- ---- the printing source
 
@@ -116,6 +119,46 @@ printingRows =
 printing-sorted : sortedOf printingSource ≡ ok printingRows
 unfolding isSpace isDigit isLetter isWord same scan all parts _>>=_ _>>_ refuseIf refuseAt digitValue valueFrom numeral operations firstOperation registers registerOf specialOf signed numberOf placed filledParts piecesFrom linePieces rowPieces shapes firstMatch arranged operandsOf arrangedIf isCallRow isPairRow labelRow rowOf nameAt cutAtCalls scopesThat rowsOfScopes firstAbove127 readRows rowsRead sortedOf
 printing-sorted = refl
+
+-- 3 label rows, 4 instructions, 6 addresses and 6 words, before it is built
+abbrev printingRoom : RoomFigures
+printingRoom = record { labels = 3; instructions = 4; counted = 6; words = 6 }
+
+printing-room : roomOf printingSource ≡ ok printingRoom
+unfolding instructions total
+printing-room = room-is-built printingSource [] plenty printingAccepted printing-accepted printingRows printing-sorted
+
+printing-within : printingRoom .words ≤ printingRoom .counted
+printing-within = words-within-counted printingSource [] plenty printingAccepted printing-accepted printingRoom printing-room
+
+-- it is accepted into three entries and six words
+printing-just-so : assembled printingSource [] (record { entries = 3; words = 6; hosts = plenty .hosts }) ≡ ok printingAccepted
+printing-just-so =
+    sym (room-suffices printingSource [] plenty printingRoom printing-room (omega arith) (omega arith)) ∙ printing-accepted
+
+-- with its prophet listed, one host besides is enough
+abbrev printingList : List ℕ
+printingList = bytes "label\n.PROPHET0_0"
+
+printing-listed : listedLabels printingList ≡ ok (bytes ".PROPHET0_0" ∷ [])
+unfolding same parts _>>_ refuseIf withoutLastEmpty labelsAfterHead listedLabels
+printing-listed = refl
+
+printing-never-short : (n d : ℕ) → assembled printingSource printingList (record { entries = 3; words = 6; hosts = 1 }) ≡ refused n d → (8 ≤ n) × (n ≤ 12)
+printing-never-short =
+    room-never-short printingSource printingList (record { entries = 3; words = 6; hosts = 1 }) printingRoom printing-room (omega arith) (omega arith)
+    λ labels e. subst (λ (l : List (List ℕ)). length l ≤ 1) (ok-same (sym printing-listed ∙ e)) (omega arith)
+
+-- a source with two mains has no room, and is refused alike whatever is lent
+abbrev twoMains : List ℕ
+twoMains = bytes "main:\nmain:"
+
+mains-no-room : roomOf twoMains ≡ refused 6 0
+unfolding isSpace isDigit isLetter isWord same scan all parts _>>=_ _>>_ refuseIf refuseAt placed filledParts piecesFrom linePieces rowPieces isCallRow isPairRow labelRow rowOf nameAt cutAtCalls scopesThat rowsOfScopes firstAbove127 readRows rowsRead sortedOf roomOf
+mains-no-room = refl
+
+mains-refused : (prophets : List ℕ) (room : Room) → assembled twoMains prophets room ≡ refused 6 0
+mains-refused prophets room = room-refused twoMains prophets room 6 0 mains-no-room
 
 printing-clean : allClean (instructions printingRows) ≡ true
 unfolding allClean instructions

@@ -33,12 +33,12 @@ use Rattle.decoder.specs.Open.{maxBytecodeBytes}
 
 -- ---- the words of an instruction
 
+pub most-two : (t : Bool) → cond t 2 1 ≤ 2
+most-two true = omega arith
+most-two false = omega arith
+
 emitted-most : (b : BinaryInstruction) → emittedLength b ≤ 2
-emitted-most b = go (isMemory (b .opcode) || isNumber (b .op1))
-  where
-    go : (t : Bool) → cond t 2 1 ≤ 2
-    go true = omega arith
-    go false = omega arith
+emitted-most b = most-two (isMemory (b .opcode) || isNumber (b .op1))
 
 -- an operation that has no places is no mload or mstore
 bare-no-memory : (o : OlaOpcode) → isBare (rowPlaces o) ≡ true → isMemory o ≡ false

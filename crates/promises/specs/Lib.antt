@@ -8,6 +8,8 @@ pub mod AcceptedLaws
 pub mod TieLaws
 pub mod SameLaws
 pub mod NamePromise
+pub mod LateLaws
+pub mod RoomLaws
 pub mod Promises
 pub mod Applied
 pub mod AppliedBytecode

@@ -15,6 +15,7 @@ use Rattle.vm_hardware.specs.declared.Place.{Place}
 use Rattle.vm_hardware.specs.declared.Place.the-variants.{Op0, Op1, Dst}
 use Rattle.vm_operands.specs.declared.OlaOperand.{OlaOperand}
 use Rattle.asm.specs.Rows.{counted, countedLength, instructions}
+use Rattle.asm.specs.Survey.{isMemoryRow}
 use Rattle.asm.specs.declared.OlaAsmOperand.{OlaAsmOperand}
 use Rattle.asm.specs.declared.OlaAsmOperand.the-variants.{Empty, ImmediateOperand, RegisterOperand, RegisterWithOffset, RegisterWithFactoredRegOffset, SpecialReg, Label, Identifier}
 use Rattle.asm.specs.declared.OlaAsmInstruction.{OlaAsmInstruction}
@@ -25,7 +26,7 @@ use Rattle.program.specs.Instructions.{aNumber, isNumber, isMemory}
 use Rattle.program.specs.Words.{emittedLength, wordsBefore}
 use Rattle.program.specs.declared.BinaryInstruction.{BinaryInstruction}
 use Rattle.encoder.specs.Canonical.{Names, namesOf, holderOf, lookedUp, plain, canonicalOf, canonicalProgram, firstMisplaced}
-use Rattle.encoder.proofs.Origins.{isMemoryRow, memory-rows, Resolved, Anchored, by-offset, by-factor, Origin, ordinary, load, store, canonical-origin}
+use Rattle.encoder.proofs.Origins.{memory-rows, Resolved, Anchored, by-offset, by-factor, Origin, ordinary, load, store, canonical-origin}
 use Rattle.encoder.proofs.AcceptedLaws.{Pairs, no-pair, one-pair, canonical-pairs, WellPlaced, well-placed, looked-up}
 use Rattle.promises.specs.Terms.{isBracketed, isClean, allClean, operandAt, contentAt, HoldsCount}
 
@@ -61,7 +62,7 @@ plain-length false true x y h p q = rw (p, q)
 plain-length false false x y h p q = rw (p, q)
 
 -- a memory operand counts 1, its value nothing
-anchored-counted : (o : OlaOpcode) (x y : OlaAsmOperand) (b : BinaryInstruction) → Anchored o x y b → (counted x ≡ 1) × (counted y ≡ 0) × (o ≡ b .opcode)
+pub anchored-counted : (o : OlaOpcode) (x y : OlaAsmOperand) (b : BinaryInstruction) → Anchored o x y b → (counted x ≡ 1) × (counted y ≡ 0) × (o ≡ b .opcode)
 anchored-counted o x y b (by-offset a d v) = (refl, refl, refl)
 anchored-counted o x y b (by-factor a t d v) = (refl, refl, refl)
 

@@ -24,7 +24,7 @@ use Rattle.promises.specs.AcceptedLaws.{accepted-shaped}
 
 module _ (s prophets : List ℕ) (room : Room) (a : Accepted) (h : assembled s prophets room ≡ ok a) where
   -- the program is the canonical program of the sorted rows
-  of-rows : (rows : List AsmRow) → sortedOf s ≡ ok rows → canonicalProgram s rows ≡ ok (a .program)
+  pub of-rows : (rows : List AsmRow) → sortedOf s ≡ ok rows → canonicalProgram s rows ≡ ok (a .program)
   of-rows rows e =
       let r = accepted-rows s prophets room a h in
       subst (λ (x : List AsmRow). canonicalProgram s x ≡ ok (a .program)) (ok-same (sym (r .sorted) ∙ e)) (r .canonical)

@@ -20,9 +20,11 @@ use Rattle.asm.specs.declared.OlaAsmOperand.the-variants.{Label, Identifier}
 use Rattle.asm.specs.declared.OlaAsmInstruction.{OlaAsmInstruction}
 use Rattle.asm.specs.declared.AsmRow.{AsmRow}
 use Rattle.asm_laws.proofs.LineLaws.{textRows, lines-texts}
-use Rattle.relocate.specs.Labels.{callKind, jmpKind}
-use Rattle.relocate.specs.Prophets.{placeOf, keptFrom}
+use Rattle.relocate.specs.Labels.{callKind, jmpKind, addressOf}
+use Rattle.relocate.specs.Prophets.{listedLabels, placeOf, keptFrom}
 use Rattle.relocate.specs.Relocate.{rowsRead, sortedOf}
+use Rattle.relocate.specs.Room.{roomOf}
+use Rattle.relocate.specs.declared.RoomFigures.{RoomFigures}
 use Rattle.relocate_laws.proofs.KeptLaws.{places-ascend, later-kept as last-is-kept}
 use Rattle.program.specs.Words.{programWords, wordsBefore}
 use Rattle.program.specs.Bytecode.{bytecodeOf, bytecodeWritten, textLeft}
@@ -42,6 +44,7 @@ use Rattle.promises.specs.TieLaws.{left-front, bytecode-fits, nth-answer
 use Rattle.promises.specs.SameLaws.{words-same, bytecode-same, program-alone}
 use Rattle.promises.specs.AcceptedLaws.{accepted-words, accepted-readable, accepted-short, accepted-form}
 use Rattle.promises.specs.NamePromise.{rows-there, names-counted}
+use Rattle.promises.specs.RoomLaws.{room-built, words-within, refused-so, room-enough, room-late}
 
 -- What a caller holds after an accepted call.
 module _ (s prophets : List ℕ) (room : Room) (a : Accepted) (h : assembled s prophets room ≡ ok a) where
@@ -58,6 +61,41 @@ module _ (s prophets : List ℕ) (room : Room) (a : Accepted) (h : assembled s p
   pub bytecode-left : (text : List ℕ) → length (bytecodeOf (a .words)) ≤ length text
       → take (length (bytecodeOf (a .words))) (textLeft (bytecodeWritten (a .words) (length text)) text) ≡ bytecodeOf (a .words)
   bytecode-left text k = bytecode-fits (a .words) text k
+
+  -- relocate_measure::room_of and ola_room_of tell of this source the label rows, instructions and words that the build produced, and the address
+  -- after its last instruction.
+  -- A caller that asks before it builds lends just what the build fills.
+  pub room-is-built : (rows : List AsmRow) → sortedOf s ≡ ok rows
+      → roomOf s ≡ ok (record { labels = a .labels; instructions = length (a .program); counted = addressOf (instructions rows) (length (a .program)); words = length (a .words) })
+  room-is-built = room-built s prophets room a h
+
+  -- Of an accepted source they tell no more words than its counted length. (Of one that 11 turns away they may.)
+  -- Who sets aside a word for each address has set aside enough.
+  pub words-within-counted : (f : RoomFigures) → roomOf s ≡ ok f → f .words ≤ f .counted
+  words-within-counted = words-within s prophets room a h
+
+-- Any source, prophets and room.
+module _ (s prophets : List ℕ) (room : Room) where
+  -- What room_of and ola_room_of refuse, assembling refuses with the same number and detail, whatever is lent.
+  -- Of relocate_measure::room_of and ola_room_of; encoder_assemble::assemble_parts, encoder_entries::assemble, ola_assemble_parts and ola_assemble.
+  -- A caller that was refused room need not try to build.
+  pub room-refused : (n d : ℕ) → roomOf s ≡ refused n d → assembled s prophets room ≡ refused n d
+  room-refused = refused-so s prophets room
+
+  -- Whoever lends as many table entries and words as they tell, or more, gets the outcome of lending just so many: lending more changes nothing, so
+  -- lending just so much is enough.
+  -- Of the same functions. Hosts, one for each listed prophet, are not the source's to tell, and stay as they are lent.
+  pub room-suffices : (f : RoomFigures) → roomOf s ≡ ok f → f .labels ≤ room .entries → f .words ≤ room .words
+      → assembled s prophets room ≡ assembled s prophets (record { entries = f .labels; words = f .words; hosts = room .hosts })
+  room-suffices = room-enough s prophets room
+
+  -- With a host for each listed prophet besides, what is refused is one of 8 to 12: neither 7 nor 13.
+  -- Of the same functions.
+  -- A caller that lends what it was told, and hosts by its list, is never told that it lent too little.
+  pub room-never-short : (f : RoomFigures) → roomOf s ≡ ok f → f .labels ≤ room .entries → f .words ≤ room .words
+      → ((labels : List (List ℕ)) → listedLabels prophets ≡ ok labels → length labels ≤ room .hosts)
+      → (n d : ℕ) → assembled s prophets room ≡ refused n d → (8 ≤ n) × (n ≤ 12)
+  room-never-short = room-late s prophets room
 
 -- Two accepted sources, each with prophets and room of its own.
 module _ (s t prophets others : List ℕ) (room space : Room) (a b : Accepted) (h : assembled s prophets room ≡ ok a) (k : assembled t others space ≡ ok b) where

@@ -1,5 +1,5 @@
--- Inputs that separate likely misreadings of scopes, label tables, prophets and refusals 1 to 9, by computation. Expected values: document
--- 01 and READINGS 4 to 8.
+-- Inputs that separate likely misreadings of scopes, label tables, prophets, refusals 1 to 9 and the room that a source takes, by computation.
+-- Expected values: document 01, READINGS 4 to 8, and document 02's Point 1.
 use Prim.Native.Nat.{ℕ, _<_}
 use mathlib.Core.Path.{_≡_, refl, sym, ap, _∙_}
 use mathlib.Core.List.{List, [], _∷_, map}
@@ -22,8 +22,10 @@ use Rattle.relocate.specs.Scopes.{cutAtCalls, scopesThat, rowsOfScopes}
 use Rattle.relocate.specs.Labels.{labelRows, holder, tableOf}
 use Rattle.relocate.specs.Prophets.{withoutLastEmpty, labelsAfterHead, listedLabels, hostsFrom, isIn, Kept, keptFrom, keptCount}
 use Rattle.relocate.specs.Relocate.{firstAbove127, rowsRead, sortedOf, tabled, hostsOf}
+use Rattle.relocate.specs.Room.{roomOf}
 use Rattle.relocate.specs.Columns.{columnLeft, addressIn}
 use Rattle.relocate.specs.declared.LabelEntry.{LabelEntry}
+use Rattle.relocate.specs.declared.RoomFigures.{RoomFigures}
 
 -- kind, mapped, start, length, address
 abbrev entry : ℕ → Bool → ℕ → ℕ → ℕ → LabelEntry
@@ -109,6 +111,36 @@ keptCases =
     ∷ (0 ∷ 0 ∷ 0 ∷ [], record { host = 0; place = 2 } ∷ [])
     ∷ []
 
+-- label rows, instructions, counted length, words
+abbrev takes : ℕ → ℕ → ℕ → ℕ → Answer RoomFigures
+takes l i n w = ok (record { labels = l; instructions = i; counted = n; words = w })
+
+abbrev roomCases : List (List ℕ × Answer RoomFigures)
+roomCases =
+    -- 01's printing source
+    (bytes "f:\nret\nmain:\nmov r1 -1\ncall f\n.PROPHET0_0:\nend", takes 3 4 6 6)
+    -- "one more for mload, mstore or an op1 that is a number, name or label"
+    ∷ (bytes "main:\nmload r1 r2", takes 1 1 1 2)
+    ∷ (bytes "main:\nmstore [r1] 5", takes 1 1 3 2)
+    ∷ (bytes "main:\nmload r1 5", takes 1 1 2 2)
+    ∷ (bytes "main:\nmov r1 [r2]", takes 1 1 2 1)
+    ∷ (bytes "main:\nmov 5 r1", takes 1 1 1 1)
+    -- nothing is looked up
+    ∷ (bytes "main:\njmp nowhere", takes 1 1 2 2)
+    -- every label row counts, one that marks nothing and one whose name came before too
+    ∷ (bytes "main:", takes 1 0 0 0)
+    ∷ (bytes "main:\nf:\nf:\nend", takes 3 1 1 1)
+    ∷ (bytes "main:\nend\nf:\n.LBL0_0:\n.PROPHET0_0:", takes 4 1 1 1)
+    -- rows before the first call label count
+    ∷ (bytes "jmp 1\nmain:\nend", takes 1 2 3 3)
+    -- "each source that passes refusals 1 to 6"
+    ∷ ((59 ∷ 128 ∷ []), refused 2 1)
+    ∷ (bytes "main:\nfoo", refused 3 1)
+    ∷ ([], refused 4 0)
+    ∷ (bytes "f:\nret", refused 5 0)
+    ∷ (bytes "main:\nmain:", refused 6 0)
+    ∷ []
+
 -- the cases are exported, since modules that export are checked first: a wrong definition is told by its case, then by the laws
 pub tables-right : map (λ c. tableWith (c .0) (c .1)) tableCases ≡ map (λ c. c .2) tableCases
 unfolding isSpace isDigit isLetter isWord same total scan all parts _>>=_ _>>_ refuseIf refuseAt digitValue valueFrom numeral operations firstOperation registers registerOf specialOf signed numberOf placed filledParts piecesFrom linePieces rowPieces shapes firstMatch arranged operandsOf arrangedIf isCallRow isPairRow labelRow rowOf nameAt cutAtCalls scopesThat rowsOfScopes instructions labelRows holder firstAbove127 readRows rowsRead sortedOf tabled
@@ -125,6 +157,10 @@ hosts-right = refl
 pub kept-right : map (λ c. keptFrom 0 (c .0)) keptCases ≡ map (λ c. c .1) keptCases
 unfolding isIn keptFrom
 kept-right = refl
+
+pub rooms-right : map (λ c. roomOf (c .0)) roomCases ≡ map (λ c. c .1) roomCases
+unfolding isSpace isDigit isLetter isWord same total scan all parts _>>=_ _>>_ refuseIf refuseAt digitValue valueFrom numeral operations firstOperation registers registerOf specialOf signed numberOf placed filledParts piecesFrom linePieces rowPieces shapes firstMatch arranged operandsOf arrangedIf isCallRow isPairRow labelRow rowOf nameAt cutAtCalls scopesThat rowsOfScopes instructions labelRows firstAbove127 readRows rowsRead sortedOf roomOf
+rooms-right = refl
 
 -- 1 and 8 stand before everything else, whatever the bytes are
 too-long : (s : List ℕ) → 65536 < length s → rowsRead s ≡ refused 1 0

@@ -36,17 +36,23 @@ layoutOf s t = record {
   end = placeOr (length s) (t .end);
 }
 
--- refusals 1 to 7, told by the survey's sums: StretchLaws says that this is `tabled`
-unfoldable pub measured : List ℕ → ℕ → Answer Layout
-measured s room = do
+-- refusals 1 to 6, told by the survey's sums: StretchLaws says that this is `sortedOf`
+unfoldable pub laidOut : List ℕ → Answer Layout
+laidOut s = do
   refuseIf (ltb 65536 (length s)) 1
   refuseAt (firstAbove127 0 s) 2
   t ← surveyOf s
   refuseIf (eqb (t .rows) 0) 4
   refuseIf (eqb (t .mains) 0) 5
   refuseIf (ltb 1 (t .mains)) 6
-  refuseIf (ltb room (t .labels)) 7
   ok (layoutOf s t)
+
+-- and 7: StretchLaws says that this is `tabled`
+unfoldable pub measured : List ℕ → ℕ → Answer Layout
+measured s room = do
+  l ← laidOut s
+  refuseIf (ltb room (l .labels)) 7
+  ok l
 
 -- an answer by its number and detail, or its layout
 abbrev pub measuredNumbered : Measured → Answer Layout

@@ -4,3 +4,4 @@ pub mod Prophets
 pub mod Relocate
 pub mod Layout
 pub mod Columns
+pub mod Room

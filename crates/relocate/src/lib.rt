@@ -40,7 +40,7 @@ pub enum RelocateRefusal {
     ProphetUnknown(usize),
 }
 
-// What a source that passes refusals 1 to 7 adds up to, and the stretch of it that is main's scope, from start to end.
+// What a source that passes refusals 1 to 6 adds up to, and the stretch of it that is main's scope, from start to end.
 pub struct Layout {
     pub labels: usize,
     pub instructions: usize,
@@ -50,9 +50,23 @@ pub struct Layout {
     pub end: usize,
 }
 
-// Whether a source passes refusals 1 to 7.
+// Whether a source passes refusals 1 to 6, or, for a label table of so many entries, 1 to 7.
 pub enum Measured {
     Is(Layout),
+    Refused(RelocateRefusal),
+}
+
+// What a source takes: its label rows, instructions, counted length and words.
+pub struct RoomFigures {
+    pub labels: usize,
+    pub instructions: usize,
+    pub counted: usize,
+    pub words: usize,
+}
+
+// What a source takes, where it passes refusals 1 to 6.
+pub enum RoomFound {
+    Is(RoomFigures),
     Refused(RelocateRefusal),
 }
 

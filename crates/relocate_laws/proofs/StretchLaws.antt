@@ -17,7 +17,7 @@ use Rattle.text.proofs.AnswerLaws.{ok-same, ok-bind, if-passed, at-passed}
 use Rattle.vm_mnemonics.specs.Mnemonics.{operationOf}
 use Rattle.asm.specs.Parts.{Part, linePieces, piecesAfter, sourcePieces, lineAt, nextLine}
 use Rattle.asm.specs.Rows.{operandsOf, arrangedIf, isCallRow, isPairRow, labelRow, orElseRow, rowOf, lineOf, readRows, instructions, countedLength}
-use Rattle.asm.specs.Survey.{wordCount, isLabelRow, isMainRow, countRows, mainStart, mainEnd, tallyOf, surveyFrom, surveyOf}
+use Rattle.asm.specs.Survey.{wordCount, isMainRow, countRows, mainStart, mainEnd, tallyOf, surveyFrom, surveyOf}
 use Rattle.asm.specs.declared.AsmRow.{AsmRow}
 use Rattle.asm.specs.declared.AsmRow.the-variants.{Instruction, LabelCall, LabelJmp, LabelProphet}
 use Rattle.asm.specs.declared.RowRead.{RowRead}
@@ -30,7 +30,9 @@ use Rattle.asm_laws.proofs.PlaceLaws.{arranged-if-related}
 use Rattle.relocate.specs.Scopes.{sortedRows, mainCount}
 use Rattle.relocate.specs.Labels.{labelRows}
 use Rattle.relocate.specs.Relocate.{firstAbove127, rowsRead, sortedOf, tabled}
-use Rattle.relocate.specs.Layout.{placeOr, layoutOf, measured, onRead, readable, stretchRows, layoutRows}
+use Rattle.relocate.specs.Layout.{placeOr, layoutOf, laidOut, measured, onRead, readable, stretchRows, layoutRows}
+use Rattle.relocate.specs.Room.{figuresOf, roomOf}
+use Rattle.relocate.specs.declared.RoomFigures.{RoomFigures}
 use Rattle.relocate.specs.declared.Layout.{Layout}
 use Rattle.relocate_laws.proofs.SortLaws.{sorted-total}
 use Rattle.relocate_laws.proofs.LengthLaws.{ReadAs, none-read, one-read, rows-read-as}
@@ -202,7 +204,7 @@ module _ (s : List ℕ) (rows : List AsmRow) (read : ReadAs (sourcePieces s) row
           let a : ReadAs (piecesAfter s (w .place)) main = subst (ReadAs (piecesAfter s (w .place))) (ap (λ (l : List AsmRow). main ++ l) e ∙ append-nil main) (c .back) in
           three (length s) [] (rw (take-all (length s) s (omega arith)) a) (rw (pieces-past s (length s) (omega arith)) none-read) e (omega arith)
 
--- ---- what is measured is what is tabled
+-- ---- what is laid out is what is sorted
 
 -- refusals 4 to 6 of rows that were read
 abbrev sortedAfter : List ℕ → List AsmRow → Answer (List AsmRow)
@@ -212,19 +214,12 @@ sortedAfter s rows = do
   refuseIf (ltb 1 (mainCount s rows)) 6
   ok (sortedRows s rows)
 
--- refusal 7
-abbrev fitting : ℕ → List AsmRow → Answer (List AsmRow)
-fitting room rows = do
-  refuseIf (ltb room (length (labelRows 0 rows))) 7
-  ok rows
-
--- refusals 4 to 7 by the sums
-abbrev measuredAfter : List ℕ → ℕ → Tally → Answer Layout
-measuredAfter s room t = do
+-- refusals 4 to 6 by the sums
+abbrev laidAfter : List ℕ → Tally → Answer Layout
+laidAfter s t = do
   refuseIf (eqb (t .rows) 0) 4
   refuseIf (eqb (t .mains) 0) 5
   refuseIf (ltb 1 (t .mains)) 6
-  refuseIf (ltb room (t .labels)) 7
   ok (layoutOf s t)
 
 -- no rows are rows that number none
@@ -236,10 +231,9 @@ none-counted (r ∷ rs) = ne-eqb (suc (length rs)) 0 (λ e. omega arith)
 one-left : (n : ℕ) → eqb n 0 ≡ false → ltb 1 n ≡ false → n ≡ 1
 one-left n a b = let h = ltb-false 1 n b in let k = eqb-false n 0 a in omega (arith, k)
 
-module _ (s : List ℕ) (room : ℕ) where
-  -- refusals 4 to 7 agree
-  after-read : (rows : List AsmRow) → ReadAs (sourcePieces s) rows
-      → (sortedAfter s rows >>= fitting room) ≡ (measuredAfter s room (tallyOf s rows) >>= λ l. ok (layoutRows s l))
+module _ (s : List ℕ) where
+  -- refusals 4 to 6 agree
+  after-read : (rows : List AsmRow) → ReadAs (sourcePieces s) rows → sortedAfter s rows ≡ (laidAfter s (tallyOf s rows) >>= λ l. ok (layoutRows s l))
   unfolding _>>=_ _>>_ refuseIf
   after-read rows read = rw (main-count s rows, none-counted rows) (go (isEmpty rows) (eqb mains 0) refl (ltb 1 mains) refl)
     where
@@ -247,29 +241,21 @@ module _ (s : List ℕ) (room : ℕ) where
       mains = countRows (isMainRow s) rows
 
       go : (a b : Bool) → eqb mains 0 ≡ b → (c : Bool) → ltb 1 mains ≡ c
-          → ((refuseIf a 4 >> (refuseIf b 5 >> (refuseIf c 6 >> ok (sortedRows s rows)))) >>= fitting room)
-          ≡ ((refuseIf a 4 >> (refuseIf b 5 >> (refuseIf c 6 >> (refuseIf (ltb room (countRows isLabelRow rows)) 7 >> ok (layoutOf s (tallyOf s rows))))))
-          >>= λ l. ok (layoutRows s l))
+          → (refuseIf a 4 >> (refuseIf b 5 >> (refuseIf c 6 >> ok (sortedRows s rows))))
+          ≡ ((refuseIf a 4 >> (refuseIf b 5 >> (refuseIf c 6 >> ok (layoutOf s (tallyOf s rows))))) >>= λ l. ok (layoutRows s l))
       go true b e c f = refl
       go false true e c f = refl
       go false false e true f = refl
-      go false false e false f =
-          let w = main-cut s rows (one-left mains e f) in
-          rw (sorted-labels s rows w) (fit (ltb room (countRows isLabelRow rows)) (laid s rows read w .sorted))
-        where
-          fit : (t : Bool) → layoutRows s (layoutOf s (tallyOf s rows)) ≡ sortedRows s rows
-              → (refuseIf t 7 >> ok (sortedRows s rows)) ≡ ((refuseIf t 7 >> ok (layoutOf s (tallyOf s rows))) >>= λ l. ok (layoutRows s l))
-          fit true h = refl
-          fit false h = ap ok (sym h)
+      go false false e false f = let w = main-cut s rows (one-left mains e f) in ap ok (sym (laid s rows read w .sorted))
 
-  -- refusals 1 to 7, asked in the definitions' order or by the sums
-  pub tabled-measured : tabled s room ≡ (measured s room >>= λ l. ok (layoutRows s l))
-  unfolding tabled sortedOf rowsRead measured surveyFrom _>>=_ _>>_ refuseIf refuseAt
-  tabled-measured = go (ltb 65536 (length s)) (firstAbove127 0 s) (readRows 0 (sourcePieces s)) (rows-read-as 0 (sourcePieces s))
+  -- refusals 1 to 6, asked in the definitions' order or by the sums
+  pub sorted-laid : sortedOf s ≡ (laidOut s >>= λ l. ok (layoutRows s l))
+  unfolding sortedOf rowsRead laidOut surveyFrom _>>=_ _>>_ refuseIf refuseAt
+  sorted-laid = go (ltb 65536 (length s)) (firstAbove127 0 s) (readRows 0 (sourcePieces s)) (rows-read-as 0 (sourcePieces s))
     where
       go : (a : Bool) (b : Option ℕ) (x : Answer (List AsmRow)) → ((rows : List AsmRow) → x ≡ ok rows → ReadAs (sourcePieces s) rows)
-          → (((refuseIf a 1 >> (refuseAt b 2 >> x)) >>= sortedAfter s) >>= fitting room)
-          ≡ ((refuseIf a 1 >> (refuseAt b 2 >> ((x >>= λ rs. ok (tallyOf s rs)) >>= measuredAfter s room))) >>= λ l. ok (layoutRows s l))
+          → ((refuseIf a 1 >> (refuseAt b 2 >> x)) >>= sortedAfter s)
+          ≡ ((refuseIf a 1 >> (refuseAt b 2 >> ((x >>= λ rs. ok (tallyOf s rs)) >>= laidAfter s))) >>= λ l. ok (layoutRows s l))
       go true b x f = refl
       go false (some d) x f = refl
       go false none (refused n d) f = refl
@@ -278,81 +264,150 @@ module _ (s : List ℕ) (room : ℕ) where
 -- ---- what an accepted layout says
 
 -- the rows that a layout's sums were made of
-record Accepted (s : List ℕ) (room : ℕ) (l : Layout) : Type 0 where
+record Accepted (s : List ℕ) (l : Layout) : Type 0 where
   rows : List AsmRow
   short : length s ≤ 65536
   read : ReadAs (sourcePieces s) rows
   cut : MainCut s rows
-  fits : countRows isLabelRow rows ≤ room
   is : layoutOf s (tallyOf s rows) ≡ l
 
 -- every accepted layout's were
-accepted : (s : List ℕ) (room : ℕ) (l : Layout) → measured s room ≡ ok l → Accepted s room l
-unfolding measured surveyFrom
-accepted s room l h =
+accepted : (s : List ℕ) (l : Layout) → laidOut s ≡ ok l → Accepted s l
+unfolding laidOut surveyFrom
+accepted s l h =
     let a = if-passed (ltb 65536 (length s)) 1 _ l h in
     let b = at-passed (firstAbove127 0 s) 2 _ l (a .1) in
-    let c = ok-bind (surveyOf s) (measuredAfter s room) l (b .1) in
+    let c = ok-bind (surveyOf s) (laidAfter s) l (b .1) in
     let d = ok-bind (readRows 0 (sourcePieces s)) (λ (rs : List AsmRow). ok (tallyOf s rs)) (c .0) (c .1) in
     let t : tallyOf s (d .0) ≡ c .0 = ok-same (d .2) in
-    let k : measuredAfter s room (tallyOf s (d .0)) ≡ ok l = ap (measuredAfter s room) t ∙ c .2 in
+    let k : laidAfter s (tallyOf s (d .0)) ≡ ok l = ap (laidAfter s) t ∙ c .2 in
     let e = if-passed (eqb (length (d .0)) 0) 4 _ l k in
     let f = if-passed (eqb (countRows (isMainRow s) (d .0)) 0) 5 _ l (e .1) in
     let g = if-passed (ltb 1 (countRows (isMainRow s) (d .0))) 6 _ l (f .1) in
-    let m = if-passed (ltb room (countRows isLabelRow (d .0))) 7 _ l (g .1) in
     record {
       rows = d .0;
       short = ltb-false 65536 (length s) (a .0);
       read = rows-read-as 0 (sourcePieces s) (d .0) (d .1);
       cut = main-cut s (d .0) (one-left (countRows (isMainRow s) (d .0)) (f .0) (g .0));
-      fits = ltb-false room (countRows isLabelRow (d .0)) (m .0);
-      is = ok-same (m .1);
+      is = ok-same (g .1);
     }
 
-module _ (s : List ℕ) (room : ℕ) (l : Layout) (h : measured s room ≡ ok l) where
+module _ (s : List ℕ) (l : Layout) (h : laidOut s ≡ ok l) where
   -- the rows that this layout's sums were made of
-  abbrev took : Accepted s room l
-  took = accepted s room l h
+  abbrev took : Accepted s l
+  took = accepted s l h
 
   -- its stretches are the sorted rows
   is-laid : Laid s (l .start) (l .end) (sortedRows s (took .rows))
   is-laid = subst (λ (l : Layout). Laid s (l .start) (l .end) (sortedRows s (took .rows))) (took .is) (laid s (took .rows) (took .read) (took .cut))
 
-  -- main's scope has a byte
-  pub measured-order : l .start < l .end
-  measured-order = is-laid .order
+  laid-order : l .start < l .end
+  laid-order = is-laid .order
 
-  -- it lies within the source
-  pub measured-within : l .end ≤ length s
-  measured-within = is-laid .within
+  laid-within : l .end ≤ length s
+  laid-within = is-laid .within
 
-  -- the source is not too long
-  pub measured-short : length s ≤ 65536
-  measured-short = took .short
-
-  -- the label rows fit
-  pub measured-room : l .labels ≤ room
-  measured-room = subst (λ (l : Layout). l .labels ≤ room) (took .is) (took .fits)
+  laid-short : length s ≤ 65536
+  laid-short = took .short
 
   -- there are as many label rows
-  pub measured-labels : l .labels ≡ length (labelRows 0 (layoutRows s l))
-  measured-labels = ap (λ (l : Layout). l .labels) (sym (took .is)) ∙ sym (sorted-labels s (took .rows) (took .cut)) ∙ ap (λ (rs : List AsmRow). length (labelRows 0 rs)) (sym (is-laid .sorted))
+  laid-labels : l .labels ≡ length (labelRows 0 (layoutRows s l))
+  laid-labels = ap (λ (l : Layout). l .labels) (sym (took .is)) ∙ sym (sorted-labels s (took .rows) (took .cut)) ∙ ap (λ (rs : List AsmRow). length (labelRows 0 rs)) (sym (is-laid .sorted))
 
   -- as many instructions
-  pub measured-instructions : l .instructions ≡ length (instructions (layoutRows s l))
-  measured-instructions =
+  laid-instructions : l .instructions ≡ length (instructions (layoutRows s l))
+  laid-instructions =
       ap (λ (l : Layout). l .instructions) (sym (took .is)) ∙ sym (sorted-instructions-count s (took .rows)) ∙ ap (λ (rs : List AsmRow). length (instructions rs)) (sym (is-laid .sorted))
 
   -- their counted length
-  pub measured-counted : l .counted ≡ total (map countedLength (instructions (layoutRows s l)))
-  measured-counted =
+  laid-counted : l .counted ≡ total (map countedLength (instructions (layoutRows s l)))
+  laid-counted =
       ap (λ (l : Layout). l .counted) (sym (took .is))
       ∙ sym (sorted-total countedLength s (took .rows))
       ∙ ap (λ (rs : List AsmRow). total (map countedLength (instructions rs))) (sym (is-laid .sorted))
 
   -- their words
-  pub measured-words : l .words ≡ total (map wordCount (instructions (layoutRows s l)))
-  measured-words =
+  laid-words : l .words ≡ total (map wordCount (instructions (layoutRows s l)))
+  laid-words =
       ap (λ (l : Layout). l .words) (sym (took .is))
       ∙ sym (sorted-total wordCount s (took .rows))
       ∙ ap (λ (rs : List AsmRow). total (map wordCount (instructions rs))) (sym (is-laid .sorted))
+
+-- ---- what is measured is what is tabled
+
+-- refusal 7
+abbrev fitting : ℕ → List AsmRow → Answer (List AsmRow)
+fitting room rows = do
+  refuseIf (ltb room (length (labelRows 0 rows))) 7
+  ok rows
+
+pub tabled-measured : (s : List ℕ) (room : ℕ) → tabled s room ≡ (measured s room >>= λ l. ok (layoutRows s l))
+unfolding tabled measured _>>=_ _>>_ refuseIf
+tabled-measured s room = ap (λ (x : Answer (List AsmRow)). x >>= fitting room) (sorted-laid s) ∙ go (laidOut s) refl
+  where
+    fit : (l : Layout) (t : Bool) → (refuseIf t 7 >> ok (layoutRows s l)) ≡ ((refuseIf t 7 >> ok l) >>= λ l. ok (layoutRows s l))
+    fit l true = refl
+    fit l false = refl
+
+    go : (x : Answer Layout) → laidOut s ≡ x
+        → ((x >>= λ l. ok (layoutRows s l)) >>= fitting room) ≡ ((x >>= λ l. (refuseIf (ltb room (l .labels)) 7 >> ok l)) >>= λ l. ok (layoutRows s l))
+    go (refused n d) e = refl
+    go (ok l) e = rw (← laid-labels s l e) (fit l (ltb room (l .labels)))
+
+-- the four sums of a layout
+abbrev pub layoutFigures : Layout → RoomFigures
+layoutFigures l = record { labels = l .labels; instructions = l .instructions; counted = l .counted; words = l .words }
+
+-- the figures of a source are its layout's
+pub room-laid : (s : List ℕ) → roomOf s ≡ (laidOut s >>= λ l. ok (layoutFigures l))
+unfolding roomOf _>>=_
+room-laid s = ap (λ (x : Answer (List AsmRow)). x >>= λ rows. ok (figuresOf rows)) (sorted-laid s) ∙ go (laidOut s) refl
+  where
+    go : (x : Answer Layout) → laidOut s ≡ x → ((x >>= λ l. ok (layoutRows s l)) >>= λ rows. ok (figuresOf rows)) ≡ (x >>= λ l. ok (layoutFigures l))
+    go (refused n d) e = refl
+    go (ok l) e = sym (rw (laid-labels s l e, laid-instructions s l e, laid-counted s l e, laid-words s l e))
+
+-- a measured layout was laid out, and its label rows fit
+measured-laid : (s : List ℕ) (room : ℕ) (l : Layout) → measured s room ≡ ok l → (laidOut s ≡ ok l) × (l .labels ≤ room)
+unfolding measured
+measured-laid s room l h =
+    let a = ok-bind (laidOut s) _ l h in
+    let b = if-passed (ltb room (a .0 .labels)) 7 _ l (a .2) in
+    let e : a .0 ≡ l = ok-same (b .1) in
+    (a .1 ∙ ap ok e, subst (λ (l : Layout). l .labels ≤ room) e (ltb-false room (a .0 .labels) (b .0)))
+
+module _ (s : List ℕ) (room : ℕ) (l : Layout) (h : measured s room ≡ ok l) where
+  abbrev was : laidOut s ≡ ok l
+  was = measured-laid s room l h .0
+
+  -- main's scope has a byte
+  pub measured-order : l .start < l .end
+  measured-order = laid-order s l was
+
+  -- it lies within the source
+  pub measured-within : l .end ≤ length s
+  measured-within = laid-within s l was
+
+  -- the source is not too long
+  pub measured-short : length s ≤ 65536
+  measured-short = laid-short s l was
+
+  -- the label rows fit
+  pub measured-room : l .labels ≤ room
+  measured-room = measured-laid s room l h .1
+
+  -- there are as many label rows
+  pub measured-labels : l .labels ≡ length (labelRows 0 (layoutRows s l))
+  measured-labels = laid-labels s l was
+
+  -- as many instructions
+  pub measured-instructions : l .instructions ≡ length (instructions (layoutRows s l))
+  measured-instructions = laid-instructions s l was
+
+  -- their counted length
+  pub measured-counted : l .counted ≡ total (map countedLength (instructions (layoutRows s l)))
+  measured-counted = laid-counted s l was
+
+  -- their words
+  pub measured-words : l .words ≡ total (map wordCount (instructions (layoutRows s l)))
+  measured-words = laid-words s l was

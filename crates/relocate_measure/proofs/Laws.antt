@@ -20,40 +20,41 @@ use Rattle.asm.specs.declared.Surveyed.{Surveyed}
 use Rattle.asm.specs.declared.Surveyed.the-variants.{Is as IsTally, Unreadable}
 use Rattle.asm.specs.declared.Tally.{Tally}
 use Rattle.relocate.specs.Relocate.{firstAbove127}
-use Rattle.relocate.specs.Layout.{placeOr, measured, measuredNumbered}
+use Rattle.relocate.specs.Layout.{placeOr, laidOut, measured, measuredNumbered}
+use Rattle.relocate.specs.Room.{roomOf, roomNumbered}
+use Rattle.relocate.specs.declared.Layout.{Layout}
+use Rattle.relocate.specs.declared.RelocateRefusal.{RelocateRefusal}
+use Rattle.relocate.specs.declared.RoomFound.the-variants.{Is as IsRoom, Refused as NoRoom}
 use Rattle.relocate.specs.declared.Measured.{Measured}
 use Rattle.relocate.specs.declared.Measured.the-variants.{Is, Refused}
 use Rattle.relocate.specs.declared.RelocateRefusal.the-variants.{SourceTooLong, ByteAbove127, UnreadableRow, NoRow, NoMain, TwoMains, TableTooShort}
+use Rattle.relocate_laws.proofs.StretchLaws.{layoutFigures, room-laid}
 use Rattle.relocate_measure.specs.Weighed.{weighed}
 
--- ---- 4 to 7
+-- ---- 4 to 6
 
-module _ (n room : ℕ) (t : Tally) where
-  pub no-row : t .rows ≡ 0 → measuredNumbered (Refused NoRow) ≡ weighed n room t
+module _ (n : ℕ) (t : Tally) where
+  pub no-row : t .rows ≡ 0 → measuredNumbered (Refused NoRow) ≡ weighed n t
   unfolding weighed _>>_ refuseIf
   no-row a = rw (eq-eqb (t .rows) 0 a)
 
   module _ (a : t .rows ≡ 0 → ⊥) where
-    pub no-main : t .mains ≡ 0 → measuredNumbered (Refused NoMain) ≡ weighed n room t
+    pub no-main : t .mains ≡ 0 → measuredNumbered (Refused NoMain) ≡ weighed n t
     unfolding weighed _>>_ refuseIf
     no-main b = rw (ne-eqb (t .rows) 0 a, eq-eqb (t .mains) 0 b)
 
     module _ (b : t .mains ≡ 0 → ⊥) where
-      pub two-mains : 1 < t .mains → measuredNumbered (Refused TwoMains) ≡ weighed n room t
+      pub two-mains : 1 < t .mains → measuredNumbered (Refused TwoMains) ≡ weighed n t
       unfolding weighed _>>_ refuseIf
       two-mains c = rw (ne-eqb (t .rows) 0 a, ne-eqb (t .mains) 0 b, lt-ltb 1 (t .mains) c)
 
       module _ (c : t .mains ≤ 1) where
-        pub table-short : room < t .labels → measuredNumbered (Refused TableTooShort) ≡ weighed n room t
+        pub laid-out : (start end : ℕ) → start ≡ placeOr 0 (t .main) → end ≡ placeOr n (t .end)
+            → measuredNumbered (Is (record { labels = t .labels; instructions = t .instructions; counted = t .counted; words = t .words; start = start; end = end })) ≡ weighed n t
         unfolding weighed _>>_ refuseIf
-        table-short d = rw (ne-eqb (t .rows) 0 a, ne-eqb (t .mains) 0 b, le-ltb 1 (t .mains) c, lt-ltb room (t .labels) d)
+        laid-out start end e f = rw (ne-eqb (t .rows) 0 a, ne-eqb (t .mains) 0 b, le-ltb 1 (t .mains) c, e, f)
 
-        pub laid-out : (start end : ℕ) → t .labels ≤ room → start ≡ placeOr 0 (t .main) → end ≡ placeOr n (t .end)
-            → measuredNumbered (Is (record { labels = t .labels; instructions = t .instructions; counted = t .counted; words = t .words; start = start; end = end })) ≡ weighed n room t
-        unfolding weighed _>>_ refuseIf
-        laid-out start end d e f = rw (ne-eqb (t .rows) 0 a, ne-eqb (t .mains) 0 b, le-ltb 1 (t .mains) c, le-ltb room (t .labels) d, e, f)
-
-pub ruleset weigh-laws = (no-row, no-main, two-mains, table-short, laid-out, needs)
+pub ruleset weigh-laws = (no-row, no-main, two-mains, laid-out, needs)
 
 -- ---- 1 to 3
 
@@ -81,29 +82,57 @@ above-none k (b ∷ bs) h = go (leb b 127) refl (above-none (suc k) bs) h
     go true e f h = rw (le-ltb 127 b (leb-true b 127 e)) (f (omega arith))
     go false e f h = absurd (omega arith)
 
-module _ (s : List ℕ) (room : ℕ) where
-  pub too-long : 65536 < length s → measuredNumbered (Refused SourceTooLong) ≡ measured s room
-  unfolding measured _>>_ refuseIf
+module _ (s : List ℕ) where
+  pub too-long : 65536 < length s → measuredNumbered (Refused SourceTooLong) ≡ laidOut s
+  unfolding laidOut _>>_ refuseIf
   too-long h = rw (lt-ltb 65536 (length s) h)
 
   module _ (n : ℕ) (h : length s ≤ 65536) (e : n ≡ scan (holds Ascii) s) where
-    pub byte-above : n < length s → measuredNumbered (Refused (ByteAbove127 n)) ≡ measured s room
-    unfolding measured _>>_ refuseIf refuseAt
+    pub byte-above : n < length s → measuredNumbered (Refused (ByteAbove127 n)) ≡ laidOut s
+    unfolding laidOut _>>_ refuseIf refuseAt
     byte-above k =
         let m : 0 + scan (holds Ascii) s ≡ n = zero-add (scan (holds Ascii) s) ∙ sym e in
         rw (le-ltb 65536 (length s) h, above-at 0 s (omega arith), m)
 
     module _ (k : length s ≤ n) (r : Surveyed) (f : surveyNumbered r ≡ surveyOf s) where
-      asked : measured s room ≡ (surveyOf s >>= weighed (length s) room)
-      unfolding measured weighed _>>_ refuseIf refuseAt
+      asked : laidOut s ≡ (surveyOf s >>= weighed (length s))
+      unfolding laidOut weighed _>>_ refuseIf refuseAt
       asked = rw (le-ltb 65536 (length s) h, above-none 0 s (omega arith))
 
-      pub survey-weighed : (t : Tally) (m : Measured) → r ≡ IsTally t → measuredNumbered m ≡ weighed (length s) room t → measuredNumbered m ≡ measured s room
+      pub survey-weighed : (t : Tally) (m : Measured) → r ≡ IsTally t → measuredNumbered m ≡ weighed (length s) t → measuredNumbered m ≡ laidOut s
       unfolding _>>=_
-      survey-weighed t m g i = i ∙ sym (asked ∙ ap (λ (x : Answer Tally). x >>= weighed (length s) room) (sym f ∙ ap surveyNumbered g))
+      survey-weighed t m g i = i ∙ sym (asked ∙ ap (λ (x : Answer Tally). x >>= weighed (length s)) (sym f ∙ ap surveyNumbered g))
 
-      pub survey-refused : (rows : RowCount) → r ≡ Unreadable rows → measuredNumbered (Refused (UnreadableRow rows)) ≡ measured s room
+      pub survey-refused : (rows : RowCount) → r ≡ Unreadable rows → measuredNumbered (Refused (UnreadableRow rows)) ≡ laidOut s
       unfolding _>>=_
-      survey-refused rows g = sym (asked ∙ ap (λ (x : Answer Tally). x >>= weighed (length s) room) (sym f ∙ ap surveyNumbered g))
+      survey-refused rows g = sym (asked ∙ ap (λ (x : Answer Tally). x >>= weighed (length s)) (sym f ∙ ap surveyNumbered g))
 
-pub ruleset measure-laws = (too-long, byte-above, survey-weighed, survey-refused, needs)
+pub ruleset lay-laws = (too-long, byte-above, survey-weighed, survey-refused, needs)
+
+-- ---- 7, and the figures
+
+module _ (s : List ℕ) (m : Measured) (e : measuredNumbered m ≡ laidOut s) where
+  pub not-laid : (room : ℕ) (f : RelocateRefusal) → m ≡ Refused f → measuredNumbered (Refused f) ≡ measured s room
+  unfolding measured _>>=_
+  not-laid room f g = rw (← e, g)
+
+  module _ (l : Layout) (g : m ≡ Is l) where
+    pub table-short : (room : ℕ) → room < l .labels → measuredNumbered (Refused TableTooShort) ≡ measured s room
+    unfolding measured _>>=_ _>>_ refuseIf
+    table-short room k = rw (← e, g, lt-ltb room (l .labels) k)
+
+    pub table-fits : (room : ℕ) → l .labels ≤ room → measuredNumbered (Is l) ≡ measured s room
+    unfolding measured _>>=_ _>>_ refuseIf
+    table-fits room k = rw (← e, g, le-ltb room (l .labels) k)
+
+    pub room-is : roomNumbered (IsRoom (layoutFigures l)) ≡ roomOf s
+    unfolding _>>=_
+    room-is = sym (room-laid s ∙ rw (← e, g))
+
+  pub room-not : (f : RelocateRefusal) → m ≡ Refused f → roomNumbered (NoRoom f) ≡ roomOf s
+  unfolding _>>=_
+  room-not f g = sym (room-laid s ∙ rw (← e, g))
+
+pub ruleset measure-laws = (not-laid, table-short, table-fits, needs)
+
+pub ruleset room-laws = (room-is, room-not, needs)

@@ -1,13 +1,16 @@
-// Refusals 1 to 7, each before anything is lent: one survey of the source tells them, and how its rows are laid out.
+// Refusals 1 to 7, each before anything is lent: one survey of the source tells them, how its rows are laid out, and how much it takes.
 use asm::PlaceFound;
 use asm::Surveyed;
 use asm::Tally;
 use relocate::Layout;
 use relocate::Measured;
 use relocate::RelocateRefusal;
+use relocate::RoomFigures;
+use relocate::RoomFound;
 use text::ByteClass;
 ghost use mathlib.Core.Path.{_≡_};
-ghost use Rattle.relocate.specs.Layout.{placeOr, measured, measuredNumbered};
+ghost use Rattle.relocate.specs.Layout.{placeOr, laidOut, measured, measuredNumbered};
+ghost use Rattle.relocate.specs.Room.{roomOf, roomNumbered};
 ghost use Rattle.relocate_measure.specs.Weighed.{weighed};
 
 // The most bytes that a source may have.
@@ -23,9 +26,9 @@ fn place_or(n: usize, place: PlaceFound) -> usize
     }
 }
 
-// Refusals 4 to 7 by the sums of a source of n bytes.
-fn weigh(n: usize, room: usize, tally: Tally) -> Measured
-    ensures { λ r. ⌜ measuredNumbered r ≡ weighed n room tally ⌝ }
+// Refusals 4 to 6 by the sums of a source of n bytes.
+fn weigh(n: usize, tally: Tally) -> Measured
+    ensures { λ r. ⌜ measuredNumbered r ≡ weighed n tally ⌝ }
 {
     if tally.rows == 0 {
         return Measured::Refused(RelocateRefusal::NoRow);
@@ -35,9 +38,6 @@ fn weigh(n: usize, room: usize, tally: Tally) -> Measured
     }
     if 1 < tally.mains {
         return Measured::Refused(RelocateRefusal::TwoMains);
-    }
-    if room < tally.labels {
-        return Measured::Refused(RelocateRefusal::TableTooShort);
     }
     let main = tally.main;
     let end = tally.end;
@@ -51,9 +51,9 @@ fn weigh(n: usize, room: usize, tally: Tally) -> Measured
     })
 }
 
-// Refusals 1 to 7 in order, for a label table of so many entries.
-pub fn measure(source: &[u8], room: usize) -> Measured
-    ensures { λ r. ⌜ measuredNumbered r ≡ measured (now (source .entry)) room ⌝ }
+// Refusals 1 to 6 in order.
+fn lay_out(source: &[u8]) -> Measured
+    ensures { λ r. ⌜ measuredNumbered r ≡ laidOut (now (source .entry)) ⌝ }
 {
     if MOST_BYTES < source.len() {
         return Measured::Refused(RelocateRefusal::SourceTooLong);
@@ -63,7 +63,38 @@ pub fn measure(source: &[u8], room: usize) -> Measured
         return Measured::Refused(RelocateRefusal::ByteAbove127(n));
     }
     match asm_survey::survey(source) {
-        Surveyed::Is(tally) => weigh(source.len(), room, tally),
+        Surveyed::Is(tally) => weigh(source.len(), tally),
         Surveyed::Unreadable(rows) => Measured::Refused(RelocateRefusal::UnreadableRow(rows)),
+    }
+}
+
+// Refusals 1 to 7 in order, for a label table of so many entries.
+pub fn measure(source: &[u8], room: usize) -> Measured
+    ensures { λ r. ⌜ measuredNumbered r ≡ measured (now (source .entry)) room ⌝ }
+{
+    match lay_out(source) {
+        Measured::Refused(refusal) => Measured::Refused(refusal),
+        Measured::Is(layout) => {
+            if room < layout.labels {
+                return Measured::Refused(RelocateRefusal::TableTooShort);
+            }
+            Measured::Is(layout)
+        }
+    }
+}
+
+// What a source takes, without building it: refusals 1 to 6, or its label rows, instructions, counted length and words.
+// Promises: room-is-built, words-within-counted, room-refused, room-suffices, room-never-short.
+pub fn room_of(source: &[u8]) -> RoomFound
+    ensures { λ r. ⌜ roomNumbered r ≡ roomOf (now (source .entry)) ⌝ }
+{
+    match lay_out(source) {
+        Measured::Refused(refusal) => RoomFound::Refused(refusal),
+        Measured::Is(layout) => RoomFound::Is(RoomFigures {
+            labels: layout.labels,
+            instructions: layout.instructions,
+            counted: layout.counted,
+            words: layout.words,
+        }),
     }
 }

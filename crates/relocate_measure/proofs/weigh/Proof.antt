@@ -1,10 +1,7 @@
+-- `weigh` meets its contract.
 use Rattle.relocate_measure.proofs.Laws.{weigh-laws}
-use borrow.Author.Needs.{needs}
 use Rattle.relocate_measure.proofs.weigh.Statement.{statement}
 use Rattle.relocate_measure.proofs.weigh.Tie as tie
-use Rattle.relocate_measure.proofs.weigh.Reads as reads
-use Rattle.relocate_measure.proofs.weigh.Lts as lts
-use Rattle.relocate_measure.proofs.place_or.Reads as place-or-reads
 
 returns : tie.Need-returns
 returns c = search weigh-laws
@@ -15,26 +12,16 @@ returns-2 c = search weigh-laws
 returns-3 : tie.Need-returns-3
 returns-3 c = search weigh-laws
 
-returns-4 : tie.Need-returns-4
-returns-4 c = search weigh-laws
-
 place-or-requires : tie.Need-place-or-requires
-place-or-requires c κs = search needs
+place-or-requires c κs = search weigh-laws
 
 place-or-requires-2 : tie.Need-place-or-requires-2
-place-or-requires-2 c κs = search needs
+place-or-requires-2 c κs = search weigh-laws
 
-returns-5 : tie.Need-returns-5
-returns-5 c = search weigh-laws
+returns-4 : tie.Need-returns-4
+returns-4 c = search weigh-laws
 
 pub weigh-spec : {M : Type 1} → statement M
 weigh-spec =
     tie.close
-    (tie.spec
-    returns
-    returns-2
-    returns-3
-    returns-4
-    place-or-requires
-    place-or-requires-2
-    returns-5)
+    (tie.spec returns returns-2 returns-3 place-or-requires place-or-requires-2 returns-4)
