@@ -30,8 +30,8 @@ extern "C" {
 #endif
 
 /* The version of this header, and that of the library. A caller compares the two before any other call: structs come back by value, so a header of another
-   version over the library would corrupt the caller's stack. It is raised whenever a struct, a signature or an answer changes. */
-#define OLA_VERSION 1
+   version over the library could corrupt the caller's stack. It is raised whenever a function is added, or a struct, a signature or an answer changes. */
+#define OLA_VERSION 2
 uint64_t ola_version(void);
 
 /* The stack of ola_assemble, which has a label table of its own there; of ola_assemble_parts, which chains the table's names there, to find them quickly;
@@ -46,6 +46,9 @@ typedef struct { uint8_t kind; bool mapped; size_t start, length; uint64_t addre
 
 /* What assembling answers: how many table entries, words and hosts were written, and how many prophets are kept. */
 typedef struct { uint64_t refusal, detail, labels, words, hosts, kept; } ola_assembly;
+
+/* What a source takes: its label rows, instructions, counted length and words. */
+typedef struct { uint64_t refusal, detail, labels, instructions, counted, words; } ola_room;
 
 /* What writing a text answers: how many bytes were written. */
 typedef struct { uint64_t refusal, detail, written; } ola_written;
@@ -68,6 +71,12 @@ typedef struct { uint64_t refusal, detail, count, first, second; } ola_encoding;
 
 /* A name as a part of the source. */
 typedef struct { size_t start, length; } ola_name;
+
+/* How much a source takes, without building it: an accepted one fills so many table entries and words. Refusals 1 to 6. Hosts, one for each listed
+   prophet, are not the source's to tell. With `labels` table entries (of ola_assemble_parts, in each of its five arrays), `words` words and a host for each
+   listed prophet, assembling answers neither 7 nor 13. A figure may be 0; what is lent for it is not null even then. The figures come of a source that a
+   later refusal turns away, too. It takes less than OLA_STACK_OTHER of stack. */
+ola_room ola_room_of(const uint8_t *source, size_t source_len);
 
 /* Assembles a source with a prophet list into a table of entries, words and hosts. Refusals 1 to 13. Each `mapped` of the table is 0 or 1 before
    the call, a fresh table's too: a table that was never initialised is the caller's fault. */

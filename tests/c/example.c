@@ -1,5 +1,5 @@
 /* Calls every function of include/ola.h on the customer's printing source and on inputs that are refused, and compares what they
-   answer and leave with values typed from document 01 and from its readings. Prints what was compared; ends with 1 on a difference. */
+   answer and leave with values typed from documents 01 and 02 and from their readings. Prints what was compared; ends with 1 on a difference. */
 #include <stdio.h>
 #include <string.h>
 
@@ -181,6 +181,61 @@ static void assembling_entries(void)
         assembly_is(a, 13, 0, 0, 0, 0, 0) && same_entry(table[0], TABLE[0]) && same_entry(table[2], TABLE[2]) && untouched(words, sizeof words));
     a = ola_assemble(bytes("main:\nmload r1 r2"), 17, bytes(""), 0, table, ENTRIES, words, WORDS, hosts, HOSTS);
     say("assemble: 11 for mload from a register", assembly_is(a, 11, 0, 0, 0, 0, 0));
+}
+
+/* ---- document 02, Point 1 */
+
+static int room_is(ola_room r, uint64_t refusal, uint64_t detail, uint64_t labels, uint64_t instructions, uint64_t counted, uint64_t n)
+{
+    return r.refusal == refusal && r.detail == detail && r.labels == labels && r.instructions == instructions && r.counted == counted && r.words == n;
+}
+
+static void takes(const char *what, const char *source, uint64_t labels, uint64_t instructions, uint64_t counted, uint64_t n)
+{
+    say(what, room_is(ola_room_of(bytes(source), strlen(source)), 0, 0, labels, instructions, counted, n));
+}
+
+/* A source that is refused: number and detail, every figure 0. */
+static void takes_none(const char *what, const char *source, size_t source_len, uint64_t refusal, uint64_t detail)
+{
+    say(what, room_is(ola_room_of(bytes(source), source_len), refusal, detail, 0, 0, 0, 0));
+}
+
+static void telling_room(void)
+{
+    takes("room_of: mload of a register: more words than the counted length", "main:\nmload r1 r2", 1, 1, 1, 2);
+    takes("room_of: mstore of a number: one word more in all", "main:\nmstore [r1] 5", 1, 1, 3, 2);
+    takes("room_of: mload of a number: likewise", "main:\nmload r1 5", 1, 1, 2, 2);
+    takes("room_of: brackets outside mload and mstore take no word", "main:\nmov r1 [r2]", 1, 1, 2, 1);
+    takes("room_of: a number in dst takes none", "main:\nmov 5 r1", 1, 1, 1, 1);
+    takes("room_of: a number in op0 takes none", "main:\nadd r1 5 r2", 1, 1, 2, 1);
+    takes("room_of: no name is looked up", "main:\njmp nowhere", 1, 1, 2, 2);
+    takes("room_of: main alone", "main:", 1, 0, 0, 0);
+    takes_none("room_of: 4 for the empty source", "", 0, 4, 0);
+    takes_none("room_of: 5 without main", "f:\nret", 6, 5, 0);
+    takes_none("room_of: 6 for two mains", "main:\nmain:", 11, 6, 0);
+    takes_none("room_of: 2 with the offset of a byte above 127", "main:\nmov r1 \x80\n", 15, 2, 13);
+    takes_none("room_of: 3 with the rows before it", "main:\n\nmload\n", 13, 3, 1);
+    static char long_source[65537];
+    memset(long_source, ' ', sizeof long_source);
+    takes_none("room_of: 1 for 65,537 bytes", long_source, sizeof long_source, 1, 0);
+    takes_none("room_of: 4 for 65,536 bytes of spaces", long_source, 65536, 4, 0);
+    takes("room_of: the printing source: 3 labels, 4 instructions, counted length 6, 6 words", SOURCE, 3, 4, 6, 6);
+
+    static ola_label table[ENTRIES];
+    ola_room room = ola_room_of(bytes(SOURCE), strlen(SOURCE));
+    int fits = room.labels > 0 && room.labels <= ENTRIES && room.words > 0 && room.words <= WORDS;
+    say("room_of: the printing source fits what is lent here", fits);
+    if (!fits)
+        return;
+    clear();
+    ola_assembly a = ola_assemble(bytes(SOURCE), strlen(SOURCE), bytes(""), 0, table, room.labels, words, room.words, hosts, 0);
+    say("room_of: just so many entries and words are enough for assemble",
+        assembly_is(a, 0, 0, 3, 6, 0, 0) && memcmp(words, PRINTED, sizeof PRINTED) == 0 && untouched(words + 6, sizeof words - 6 * sizeof words[0]));
+    a = ola_assemble(bytes(SOURCE), strlen(SOURCE), bytes(""), 0, table, room.labels, words, room.words - 1, hosts, 0);
+    say("room_of: one word less is 13", assembly_is(a, 13, 0, 0, 0, 0, 0));
+    a = ola_assemble(bytes(SOURCE), strlen(SOURCE), bytes(""), 0, table, room.labels - 1, words, room.words, hosts, 0);
+    say("room_of: one entry less is 7", assembly_is(a, 7, 0, 0, 0, 0, 0));
 }
 
 static void naming(void)
@@ -387,6 +442,7 @@ static void longest(void)
         memcpy(source + length, "jmp 1\n", 6);
         length += 6;
     }
+    say("room_of: 10,921 jumps in 65,532 bytes", room_is(ola_room_of(source, length), 0, 0, 1, JUMPS, 2 * JUMPS, 2 * JUMPS));
     ola_assembly a = ola_assemble_parts(source, length, bytes(""), 0, kinds, ENTRIES, mapped, ENTRIES, starts, ENTRIES, lengths, ENTRIES,
                                         addresses, ENTRIES, many, 2 * JUMPS, hosts, HOSTS);
     int right = assembly_is(a, 0, 0, 1, 2 * JUMPS, 0, 0);
@@ -416,6 +472,7 @@ int main(void)
     say("version: the header's", ola_version() == OLA_VERSION);
     assembling();
     assembling_entries();
+    telling_room();
     naming();
     writing_and_opening();
     reading();

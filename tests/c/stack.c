@@ -48,6 +48,11 @@ static void version(void)
     ola_version();
 }
 
+static void room_of(void)
+{
+    ola_room_of(shared->source, SOURCE);
+}
+
 static void assemble(void)
 {
     ola_assemble(shared->source, SOURCE, shared->prophets, PROPHETS, table, ENTRIES, words, WORDS, hosts, HOSTS);
@@ -135,6 +140,7 @@ static void listing_row(void)
 
 static const struct { const char *name; void (*calls)(void); size_t figure; } FUNCTIONS[] = {
     { "ola_version", version, OLA_STACK_OTHER },
+    { "ola_room_of", room_of, OLA_STACK_OTHER },
     { "ola_assemble", assemble, OLA_STACK_ASSEMBLE },
     { "ola_assemble_parts", assemble_parts, OLA_STACK_ASSEMBLE_PARTS },
     { "ola_label_name", label_name, OLA_STACK_OTHER },

@@ -7,8 +7,14 @@ use borrow.Author.Needs.{needs}
 use Rattle.text.specs.Answer.{ok, refused}
 use Rattle.asm.specs.Parts.{namePart}
 use Rattle.asm.proofs.SpanLaws.{span-past, span-long, span-within}
+use Rattle.relocate.specs.Room.{roomNumbered}
+use Rattle.relocate.specs.declared.RelocateRefusal.{RelocateRefusal}
+use Rattle.relocate.specs.declared.RoomFigures.{RoomFigures}
+use Rattle.relocate.specs.declared.RoomFound.{RoomFound}
+use Rattle.relocate.specs.declared.RoomFound.the-variants.{Is as IsRoom, Refused as NoRoom}
 use Rattle.encoder.specs.Assemble.{numbered, assembleNumber, assembleDetail}
 use Rattle.encoder.specs.declared.AssembleRefusal.{AssembleRefusal}
+use Rattle.encoder.specs.declared.AssembleRefusal.the-variants.{Relocate}
 use Rattle.encoder.specs.declared.Totals.{Totals}
 use Rattle.encoder.specs.declared.Assembly.{Assembly}
 use Rattle.encoder.specs.declared.Assembly.the-variants.{Refused as NotAssembled, Assembled}
@@ -29,7 +35,7 @@ use Rattle.program_listing.specs.declared.RowWritten.the-variants.{Is as IsRow,
 use Rattle.program_encode.specs.Encoding.{encodingNumbered}
 use Rattle.program_encode.specs.declared.Encoding.{Encoding}
 use Rattle.program_encode.specs.declared.Encoding.the-variants.{Is as IsEncoded, Refused as NotEncoded}
-use Rattle.ola_answers.specs.Answers.{assemblyOf, writtenOf, encodingOf, nameOf}
+use Rattle.ola_answers.specs.Answers.{assemblyOf, figuresOut, writtenOf, encodingOf, nameOf}
 use Rattle.ola_answers.specs.declared.OlaWritten.{OlaWritten}
 
 -- ---- assembling
@@ -43,6 +49,20 @@ pub unassembled-out : (a : Assembly) (f : AssembleRefusal) (n d : ℕ) → a ≡
 unassembled-out a f n d e g h = rw (e, g, h)
 
 pub ruleset assembly-laws = (assembled-out, unassembled-out, needs)
+
+-- ---- what a source takes
+
+module _ (a : RoomFound) where
+  pub room-told : (f : RoomFigures) → a ≡ IsRoom f
+      → record { refusal = 0; detail = 0; labels = f .labels; instructions = f .instructions; counted = f .counted; words = f .words } ≡ figuresOut (roomNumbered a)
+  room-told f e = rw (e)
+
+  -- its refusals are those of assembling
+  pub room-untold : (f : RelocateRefusal) (n d : ℕ) → a ≡ NoRoom f → n ≡ assembleNumber (Relocate f) → d ≡ assembleDetail (Relocate f)
+      → record { refusal = n; detail = d; labels = 0; instructions = 0; counted = 0; words = 0 } ≡ figuresOut (roomNumbered a)
+  room-untold f n d e g h = rw (e, g, h)
+
+pub ruleset room-laws = (room-told, room-untold, needs)
 
 -- ---- writing a text or a row
 

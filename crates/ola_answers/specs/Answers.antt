@@ -3,11 +3,13 @@
 use Prim.Native.Nat.{ℕ}
 use Rattle.text.specs.Answer.{Answer, ok, refused}
 use Rattle.asm.specs.Parts.{Span}
+use Rattle.relocate.specs.declared.RoomFigures.{RoomFigures}
 use Rattle.program.specs.declared.InstructionWords.{InstructionWords}
 use Rattle.program.specs.declared.SecondWord.{SecondWord}
 use Rattle.program.specs.declared.SecondWord.the-variants.{Number, Nothing}
 use Rattle.encoder.specs.declared.Totals.{Totals}
 use Rattle.ola_answers.specs.declared.OlaAssembly.{OlaAssembly}
+use Rattle.ola_answers.specs.declared.OlaRoom.{OlaRoom}
 use Rattle.ola_answers.specs.declared.OlaWritten.{OlaWritten}
 use Rattle.ola_answers.specs.declared.OlaEncoding.{OlaEncoding}
 use Rattle.ola_answers.specs.declared.OlaName.{OlaName}
@@ -15,6 +17,11 @@ use Rattle.ola_answers.specs.declared.OlaName.{OlaName}
 abbrev pub assemblyOf : Answer Totals → OlaAssembly
 assemblyOf (ok t) = record { refusal = 0; detail = 0; labels = t .labels; words = t .words; hosts = t .hosts; kept = t .kept }
 assemblyOf (refused n d) = record { refusal = n; detail = d; labels = 0; words = 0; hosts = 0; kept = 0 }
+
+-- what a source takes
+abbrev pub figuresOut : Answer RoomFigures → OlaRoom
+figuresOut (ok f) = record { refusal = 0; detail = 0; labels = f .labels; instructions = f .instructions; counted = f .counted; words = f .words }
+figuresOut (refused n d) = record { refusal = n; detail = d; labels = 0; instructions = 0; counted = 0; words = 0 }
 
 abbrev pub writtenOf : Answer ℕ → OlaWritten
 writtenOf (ok n) = record { refusal = 0; detail = 0; written = n }

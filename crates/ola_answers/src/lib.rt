@@ -1,5 +1,6 @@
 // What the library answers as C structs, all but opening and next, which ola_steps has: refusal 0 means accepted, and on refusal every other number but the
 // detail is 0. Nothing but conversions.
+use encoder::AssembleRefusal;
 use encoder::Assembly;
 use program::EncodeRefusal;
 use program::RowRefusal;
@@ -7,15 +8,17 @@ use program::SecondWord;
 use program_bytecode::Written;
 use program_encode::Encoding;
 use program_listing::RowWritten;
+use relocate::RoomFound;
 ghost use mathlib.Core.Path.{_≡_};
 ghost use Rattle.text.specs.Answer.{ok, refused};
 ghost use Rattle.asm.specs.Parts.{namePart};
+ghost use Rattle.relocate.specs.Room.{roomNumbered};
 ghost use Rattle.encoder.specs.Assemble.{numbered};
 ghost use Rattle.program.specs.Refusals.{rowNumber, encodeNumber, encodeDetail};
 ghost use Rattle.program_bytecode.specs.Written.{writtenNumbered};
 ghost use Rattle.program_encode.specs.Encoding.{encodingNumbered};
 ghost use Rattle.program_listing.specs.Row.{rowNumbered};
-ghost use Rattle.ola_answers.specs.Answers.{assemblyOf, writtenOf, encodingOf, nameOf};
+ghost use Rattle.ola_answers.specs.Answers.{assemblyOf, figuresOut, writtenOf, encodingOf, nameOf};
 
 #[repr(C)]
 pub struct OlaAssembly {
@@ -25,6 +28,16 @@ pub struct OlaAssembly {
     pub words: u64,
     pub hosts: u64,
     pub kept: u64,
+}
+
+#[repr(C)]
+pub struct OlaRoom {
+    pub refusal: u64,
+    pub detail: u64,
+    pub labels: u64,
+    pub instructions: u64,
+    pub counted: u64,
+    pub words: u64,
 }
 
 #[repr(C)]
@@ -69,6 +82,33 @@ pub fn assembly_out(answer: Assembly) -> OlaAssembly
             words: totals.words as u64,
             hosts: totals.hosts as u64,
             kept: totals.kept as u64,
+        },
+    }
+}
+
+// What a source takes.
+pub fn room_out(answer: RoomFound) -> OlaRoom
+    ensures { λ r. ⌜ r ≡ figuresOut (roomNumbered answer) ⌝ }
+{
+    match answer {
+        RoomFound::Refused(inner) => {
+            let refusal = AssembleRefusal::Relocate(inner);
+            OlaRoom {
+                refusal: encoder_refusals::refusal_number(refusal),
+                detail: encoder_refusals::refusal_detail(refusal),
+                labels: 0,
+                instructions: 0,
+                counted: 0,
+                words: 0,
+            }
+        }
+        RoomFound::Is(figures) => OlaRoom {
+            refusal: 0,
+            detail: 0,
+            labels: figures.labels as u64,
+            instructions: figures.instructions as u64,
+            counted: figures.counted as u64,
+            words: figures.words as u64,
         },
     }
 }

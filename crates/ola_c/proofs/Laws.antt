@@ -5,6 +5,9 @@ use mathlib.Core.List.{List}
 use borrow.Author.Needs.{needs}
 use lib.ListN.{length}
 use Rattle.text.specs.Answer.{Answer, _>>=_, onOk}
+use Rattle.relocate.specs.Room.{roomNumbered}
+use Rattle.relocate.specs.declared.RoomFigures.{RoomFigures}
+use Rattle.relocate.specs.declared.RoomFound.{RoomFound}
 use Rattle.encoder.specs.Assemble.{numbered}
 use Rattle.encoder.specs.declared.Totals.{Totals}
 use Rattle.encoder.specs.declared.Assembly.{Assembly}
@@ -26,11 +29,12 @@ use Rattle.ola_places.specs.Places.{instructionIn}
 use Rattle.ola_places.specs.declared.OlaInstruction.{OlaInstruction}
 use Rattle.ola_places.specs.declared.InstructionNamed.{InstructionNamed}
 use Rattle.ola_places.specs.declared.InstructionNamed.the-variants.{Is, Nothing}
-use Rattle.ola_answers.specs.Answers.{assemblyOf, writtenOf, encodingOf}
+use Rattle.ola_answers.specs.Answers.{assemblyOf, figuresOut, writtenOf, encodingOf}
 use Rattle.ola_answers.specs.declared.OlaAssembly.{OlaAssembly}
 use Rattle.ola_answers.specs.declared.OlaWritten.{OlaWritten}
 use Rattle.ola_answers.specs.declared.OlaEncoding.{OlaEncoding}
 use Rattle.ola_answers.specs.declared.OlaName.{OlaName}
+use Rattle.ola_answers.specs.declared.OlaRoom.{OlaRoom}
 use Rattle.ola_steps.specs.Steps.{openedOf, stepOf}
 use Rattle.ola_steps.specs.declared.OlaOpened.{OlaOpened}
 use Rattle.ola_steps.specs.declared.OlaStep.{OlaStep}
@@ -38,6 +42,9 @@ use Rattle.ola_c.specs.Exports.{lineStep, offsetStep, encodingNamed, lis
 
 pub assembly-answers : (a : Assembly) (x : Answer Totals) (r : OlaAssembly) → numbered a ≡ x → r ≡ assemblyOf (numbered a) → r ≡ assemblyOf x
 assembly-answers a x r e g = g ∙ ap assemblyOf e
+
+pub room-answers : (a : RoomFound) (x : Answer RoomFigures) (r : OlaRoom) → roomNumbered a ≡ x → r ≡ figuresOut (roomNumbered a) → r ≡ figuresOut x
+room-answers a x r e g = g ∙ ap figuresOut e
 
 pub written-answers : (a : Written) (x : Answer ℕ) (r : OlaWritten) → writtenNumbered a ≡ x → r ≡ writtenOf (writtenNumbered a) → r ≡ writtenOf x
 written-answers a x r e g = g ∙ ap writtenOf e
@@ -51,7 +58,7 @@ line-answers a x r e g = g ∙ ap lineStep e
 pub offset-answers : (a : StepAt) (x : SteppedAt) (r : OlaStep) → stepNumbered a ≡ x → r ≡ stepOf (foundNumbered (a .found)) (a .offset) → r ≡ offsetStep x
 offset-answers a x r e g = g ∙ ap offsetStep e
 
-pub ruleset answer-laws = (assembly-answers, written-answers, opened-answers, line-answers, offset-answers, needs)
+pub ruleset answer-laws = (assembly-answers, room-answers, written-answers, opened-answers, line-answers, offset-answers, needs)
 
 -- ---- an instruction given as numbers
 

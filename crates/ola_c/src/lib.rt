@@ -2,6 +2,7 @@
 use ola_answers::OlaAssembly;
 use ola_answers::OlaEncoding;
 use ola_answers::OlaName;
+use ola_answers::OlaRoom;
 use ola_answers::OlaWritten;
 use ola_places::InstructionNamed;
 use ola_places::OlaInstruction;
@@ -12,6 +13,7 @@ ghost use mathlib.Core.Path.{_≡_};
 ghost use lib.ListN.{length};
 ghost use Rattle.asm.specs.Parts.{namePart};
 ghost use Rattle.relocate.specs.Relocate.{tabled};
+ghost use Rattle.relocate.specs.Room.{roomOf};
 ghost use Rattle.relocate.specs.Columns.{tableLeft, columnLeft, kindOf, mappedOf, startOf, lengthOf, addressIn};
 ghost use Rattle.relocate_names.specs.Shortest.{shortestOf};
 ghost use Rattle.program.specs.Bytecode.{bytecodeWritten, textLeft};
@@ -20,12 +22,12 @@ ghost use Rattle.encoder.specs.Assemble.{assembled, assembledTotals, wordsLeft,
 ghost use Rattle.decoder.specs.Open.{opened};
 ghost use Rattle.decoder.specs.Steps.{acceptedOf, stepped, steppedAt};
 ghost use Rattle.ola_places.specs.Places.{instructionIn};
-ghost use Rattle.ola_answers.specs.Answers.{assemblyOf, writtenOf, nameOf};
+ghost use Rattle.ola_answers.specs.Answers.{assemblyOf, figuresOut, writtenOf, nameOf};
 ghost use Rattle.ola_steps.specs.Steps.{openedOf};
 ghost use Rattle.ola_c.specs.Exports.{version, lineStep, offsetStep, encodingNamed, listed, listedText};
 
-// The version of this interface: that of include/ola.h. It is raised whenever a struct, a signature or an answer changes.
-pub const OLA_VERSION: u64 = 1;
+// The version of this interface: that of include/ola.h. It is raised whenever a function is added, or a struct, a signature or an answer changes.
+pub const OLA_VERSION: u64 = 2;
 
 // The version of the library, which a caller compares with its header's.
 // Promises: none; its contract is its whole outcome.
@@ -36,9 +38,18 @@ pub extern "C" fn ola_version() -> u64
     OLA_VERSION
 }
 
+// How much a source takes, without building it.
+// Promises: room-is-built, words-within-counted, room-refused, room-suffices, room-never-short.
+#[no_mangle]
+pub extern "C" fn ola_room_of(source: &[u8]) -> OlaRoom
+    ensures { λ r. ⌜ r ≡ figuresOut (roomOf (now (source .entry))) ⌝ }
+{
+    ola_answers::room_out(relocate_measure::room_of(source))
+}
+
 // Assembles a source with a prophet list over parallel arrays.
 // Promises: counts-answered, words-left, same-words, same-bytecode, one-program, words-ahead, accepted-has-rows, names-are-word-counts,
-// later-kept, kept-counted, rows-by-lines, same-lines.
+// later-kept, kept-counted, rows-by-lines, same-lines, room-is-built, room-refused, room-suffices, room-never-short.
 #[no_mangle]
 pub extern "C" fn ola_assemble_parts(
     source: &[u8],
@@ -76,7 +87,7 @@ pub extern "C" fn ola_assemble_parts(
 
 // Assembles a source with a prophet list over a table of entries.
 // Promises: counts-answered, words-left, same-words, same-bytecode, one-program, words-ahead, accepted-has-rows, names-are-word-counts,
-// later-kept, kept-counted, rows-by-lines, same-lines.
+// later-kept, kept-counted, rows-by-lines, same-lines, room-is-built, room-refused, room-suffices, room-never-short.
 #[no_mangle]
 pub extern "C" fn ola_assemble(
     source: &[u8],
