@@ -1,6 +1,6 @@
 //! Measures assembling and reading bytecode by the port and by the Rust with which this is built, in nanoseconds of processor time for a byte: each the
 //! median of several samples. The port: ola_assemble_parts, ola_assemble; ola_open and then ola_next_at to the end. The Rust: asm_relocate and
-//! encode_to_binary; decode_binary_program_to_instructions.
+//! encode_to_binary; decode_binary_program_to_instructions. And the room of a source, for which the Rust has nothing: ola_room_of beside ola_assemble_parts.
 mod sources;
 
 use std::hint::black_box;
@@ -23,6 +23,16 @@ struct Assembly {
     words: u64,
     hosts: u64,
     kept: u64,
+}
+
+#[repr(C)]
+struct Room {
+    refusal: u64,
+    detail: u64,
+    labels: u64,
+    instructions: u64,
+    counted: u64,
+    words: u64,
 }
 
 #[repr(C)]
@@ -96,6 +106,7 @@ mod sys {
             hosts: *mut u64,
             hosts_len: usize,
         ) -> Assembly;
+        pub fn ola_room_of(source: *const u8, source_len: usize) -> Room;
         pub fn ola_open(text: *const u8, text_len: usize) -> Opened;
         pub fn ola_next_at(text: *const u8, text_len: usize, offset: usize) -> Step;
     }
@@ -212,6 +223,13 @@ fn entries(source: &[u8]) -> Assembly {
     })
 }
 
+/// `ola_room_of`.
+fn room(source: &[u8]) -> Room {
+    let answer = unsafe { sys::ola_room_of(source.as_ptr(), source.len()) };
+    assert_eq!(answer.refusal, 0);
+    answer
+}
+
 /// `ola_open`, and then `ola_next_at` until none is left.
 fn read(text: &[u8]) -> usize {
     assert_eq!(unsafe { sys::ola_open(text.as_ptr(), text.len()) }.refusal, 0);
@@ -228,9 +246,9 @@ fn read(text: &[u8]) -> usize {
     }
 }
 
-/// What is measured, the source, its bytes, and nanoseconds a byte of the port and of the Rust.
-fn print(what: &str, name: &str, bytes: usize, port: f64, rust: f64) {
-    println!("{what}\t{name}\t{bytes}\t{:.4}\t{:.4}", port / bytes as f64, rust / bytes as f64);
+/// What is measured, the source, its bytes, and nanoseconds a byte of the port and of the Rust; of a room, of `ola_room_of` and of `ola_assemble_parts`.
+fn print(what: &str, name: &str, bytes: usize, port: f64, beside: f64) {
+    println!("{what}\t{name}\t{bytes}\t{:.4}\t{:.4}", port / bytes as f64, beside / bytes as f64);
 }
 
 fn main() {
@@ -245,5 +263,10 @@ fn main() {
         let bytes = text.as_bytes();
         let found = medians(&mut [sampler(|| bytes, read), sampler(|| oracle::program_of(&text), oracle::decode_program)]);
         print("read", name, bytes.len(), found[0], found[1]);
+    }
+    for (name, source) in sources::assembled() {
+        let bytes = source.as_bytes();
+        let found = medians(&mut [sampler(|| bytes, room), sampler(|| bytes, parts)]);
+        print("room", name, bytes.len(), found[0], found[1]);
     }
 }

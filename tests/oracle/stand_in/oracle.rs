@@ -44,10 +44,12 @@ pub struct Instruction {
     pub dst: Place,
 }
 
-/// What assembling gives: the bytecode, the address of each call name and each label, and for each host the place in the list of the prophet kept.
+/// What assembling gives: the bytecode, how many instructions there are, the address of each call name and each label, and for each host the place in the
+/// list of the prophet kept.
 #[derive(Debug, Clone, PartialEq, Eq)]
 pub struct Assembled {
     pub bytecode: String,
+    pub instructions: u64,
     pub calls: HashMap<String, u64>,
     pub labels: HashMap<String, u64>,
     pub kept: HashMap<u64, usize>,
@@ -136,6 +138,7 @@ pub fn assemble(source: &str, prophets: &[&str]) -> Answer<Assembled> {
         match encode_kind(&relocated, relocated.instructions.len()) {
             Answer::Accepted(program) => Answer::Accepted(Assembled {
                 bytecode: program.bytecode,
+                instructions: relocated.instructions.len() as u64,
                 calls: relocated.mapper_label_call.iter().map(|(k, v)| (k.clone(), *v as u64)).collect(),
                 labels: relocated.mapper_label_jmp.iter().map(|(k, v)| (k.clone(), *v as u64)).collect(),
                 kept: relocated.prophets.iter().map(|(k, v)| (*k as u64, v.code.parse().unwrap())).collect(),

@@ -1,6 +1,6 @@
-//! One case on both sides: the Rust's answer, document 01's where it departs, and the port's.
+//! One case on both sides: the Rust's answer, that of documents 01 and 02 where it departs or does not tell, and the port's.
 use crate::paper::{self, ORDER};
-use crate::port::{self, Assembly, Encoding, Label, Lent, Name, NumberedInstruction, NumberedPlace, Opened, Room, Step, Written};
+use crate::port::{self, Assembly, Encoding, Figures, Label, Lent, Name, NumberedInstruction, NumberedPlace, Opened, Room, Step, Written};
 use oracle::{Answer, Assembled, Instruction, Place};
 use std::borrow::Cow;
 use std::collections::{BTreeMap, HashMap};
@@ -24,11 +24,26 @@ pub enum Expected {
     Hosts(Vec<u64>),
     Text(String),
     Refused(u64, u64),
+    Room(Figures),
+}
+
+/// How many source cases there were; of how many the Rust told the figures and of how many the papers alone; of how many the Rust was asked for the counted
+/// length too; and how many have more words than their counted length.
+#[derive(Clone, Copy, Default)]
+pub struct Rooms {
+    pub sources: u64,
+    pub by_rust: u64,
+    pub by_paper: u64,
+    pub counted: u64,
+    pub above: u64,
 }
 
 pub struct Checker {
     /// Only the Rust runs.
     pub dry: bool,
+    /// Of one in so many of the sources that it accepts the Rust is asked for the counted length.
+    every: u64,
+    pub rooms: Rooms,
     /// How often each answer came: what was asked, and the refusal, 0 for acceptance.
     pub answers: BTreeMap<(&'static str, u64), u64>,
     /// Whether the Rust accepted the case.
@@ -79,9 +94,10 @@ fn refusal<T>(answer: &Answer<T>) -> u64 {
     }
 }
 
-/// What is expected of a source: refusals 1 to 6, the label table, refusals 8 to 12, and else words and hosts.
+/// What is expected of a source: refusals 1 to 6, its figures, the label table, refusals 8 to 12, and else words and hosts.
 struct Told {
     untabled: Option<(u64, u64)>,
+    figures: Figures,
     entries: Vec<Label>,
     refused: Option<(u64, u64)>,
     words: Vec<u64>,
@@ -95,6 +111,7 @@ impl Told {
     fn refused(number: u64, detail: u64) -> Told {
         Told {
             untabled: Some((number, detail)),
+            figures: Figures { refusal: number, detail, ..Figures::default() },
             entries: vec![],
             refused: None,
             words: vec![],
@@ -170,9 +187,28 @@ fn held(source: &str, entries: &[Label], kind: u8) -> HashMap<String, u64> {
     entries.iter().filter(|entry| entry.kind == kind && entry.mapped).map(|entry| (name(source, entry).to_string(), entry.address)).collect()
 }
 
+/// The words of a bytecode that the Rust wrote.
+fn words_of(bytecode: &str) -> Vec<u64> {
+    bytecode.split('\n').filter(|line| !line.is_empty()).map(|line| u64::from_str_radix(&line[2..], 16).unwrap()).collect()
+}
+
+/// The counted length that the Rust tells of a source that it accepts: the address of a call label put at the source's end with one instruction. The source
+/// does not contain the label's name. Of a source that this makes too long the Rust is not asked.
+fn counted(source: &str) -> Result<Option<u64>, String> {
+    let name = (0..).map(|n| format!("e{n}")).find(|name| !source.contains(name.as_str())).unwrap();
+    let longer = format!("{source}\n{name}:\nret");
+    if longer.len() > paper::SOURCE_LIMIT {
+        return Ok(None);
+    }
+    match oracle::assemble(&longer, &[]) {
+        Answer::Accepted(rust) => Ok(Some(rust.calls[&name])),
+        answer => Err(format!("the Rust with a row more answers {}", refusal(&answer))),
+    }
+}
+
 impl Checker {
-    pub fn new(dry: bool) -> Checker {
-        Checker { dry, answers: BTreeMap::new(), accepted: false }
+    pub fn new(dry: bool, every: u64) -> Checker {
+        Checker { dry, every, rooms: Rooms::default(), answers: BTreeMap::new(), accepted: false }
     }
 
     fn tally(&mut self, what: &'static str, number: u64) {
@@ -194,14 +230,19 @@ impl Checker {
     // ---- sources
 
     fn source(&mut self, source: &[u8], prophets: &[u8], expected: &Expected) -> Outcome {
+        self.rooms.sources += 1;
+        let room = if self.dry { None } else { Some(port::room_of(source)) };
         let told = self.told(source, prophets)?;
+        self.rooms.above += u64::from(told.figures.words > told.figures.counted);
         match expected {
             Expected::Words(words) => agreed("words", words, &told.words)?,
             Expected::Hosts(hosts) => agreed("hosts", hosts, &told.hosts)?,
             Expected::Refused(number, detail) => agreed("refusal", &Some((*number, *detail)), &told.untabled.or(told.refused))?,
+            Expected::Room(figures) => agreed("room", figures, &told.figures)?,
             Expected::Rows(_) | Expected::Text(_) | Expected::Nothing => {}
         }
-        if !self.dry {
+        if let Some(room) = room {
+            same("room_of", &told.figures, &room)?;
             for room in told.rooms(source) {
                 self.room(source, prophets, &told, &room)?;
             }
@@ -241,7 +282,14 @@ impl Checker {
         if let Answer::Refused(number @ 4..=5, detail) = rust {
             return Ok(Told::refused(number, detail));
         }
-        let mut told = Told { untabled: None, refused: None, entries, listed: names.len(), ..Told::refused(0, 0) };
+        let figures = match &rust {
+            Answer::Accepted(assembled) => self.figures(text, entries.len() as u64, assembled)?,
+            _ => {
+                self.rooms.by_paper += 1;
+                paper::figures(text)
+            }
+        };
+        let mut told = Told { untabled: None, refused: None, figures, entries, listed: names.len(), ..Told::refused(0, 0) };
         if list.is_none() {
             told.refused = Some((8, 0));
             return Ok(told);
@@ -262,12 +310,28 @@ impl Checker {
         told.hosts = names.iter().map(|name| prophets.get(*name).copied().unwrap_or(u64::MAX)).collect();
         let kept: HashMap<u64, usize> = told.hosts.iter().enumerate().map(|(n, host)| (*host, n)).collect();
         told.kept = rust.kept.len() as u64;
-        told.words = rust.bytecode.split('\n').filter(|line| !line.is_empty()).map(|line| u64::from_str_radix(&line[2..], 16).unwrap()).collect();
+        told.words = words_of(&rust.bytecode);
         agreed("addresses of call names", &held(source, &told.entries, 0), &rust.calls)?;
         agreed("addresses of labels", &held(source, &told.entries, 1), &rust.labels)?;
         agreed("prophets kept", &kept, &rust.kept)?;
         told.bytecode = rust.bytecode;
         Ok(told)
+    }
+
+    /// The figures of a source that the Rust accepts: its own counts, and the label rows of the table. Those that document 02 tells must agree.
+    fn figures(&mut self, source: &str, labels: u64, rust: &Assembled) -> Result<Figures, String> {
+        let paper = paper::figures(source);
+        let mut figures = Figures { labels, instructions: rust.instructions, words: words_of(&rust.bytecode).len() as u64, ..paper };
+        self.rooms.by_rust += 1;
+        if self.rooms.by_rust % self.every == 0 {
+            if let Some(counted) = counted(source)? {
+                self.rooms.counted += 1;
+                figures.counted = counted;
+            }
+        }
+        agreed("figures", &paper, &figures)?;
+        agreed("words within the counted length", &true, &(figures.words <= figures.counted))?;
+        Ok(figures)
     }
 
     fn room(&mut self, source: &[u8], prophets: &[u8], told: &Told, room: &Room) -> Outcome {

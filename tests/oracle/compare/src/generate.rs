@@ -12,11 +12,12 @@ pub struct Generator {
     pub draw: fn(&mut Random) -> Case,
 }
 
-pub const GENERATORS: [Generator; 12] = [
-    Generator { name: "scopes, labels and prophets", share: 20, draw: scopes },
+pub const GENERATORS: [Generator; 13] = [
+    Generator { name: "scopes, labels and prophets", share: 18, draw: scopes },
     Generator { name: "many names", share: 2, draw: many_names },
     Generator { name: "whitespace, line endings, comments, numbers", share: 15, draw: spelling },
-    Generator { name: "damaged sources", share: 22, draw: damaged_source },
+    Generator { name: "any operand in any place", share: 4, draw: any_places },
+    Generator { name: "damaged sources", share: 20, draw: damaged_source },
     Generator { name: "soup of bytes and pieces", share: 8, draw: soup },
     Generator { name: "two mains, bytes above 127, lists of another form", share: 3, draw: departures },
     Generator { name: "bytecode of written instructions", share: 8, draw: written_bytecode },
@@ -272,6 +273,32 @@ fn spelling(r: &mut Random) -> Case {
     };
     let source = spelt(&rows, parted, ended);
     Case::Source { source, prophets: list(r, &prophets) }
+}
+
+/// Rows with as many operands as their operation takes, of any shape in any place, one in three of mload or mstore.
+fn any_places(r: &mut Random) -> Case {
+    let operand = |r: &mut Random| match r.below(8) {
+        0 | 1 => register(r),
+        2 | 3 => number(r, false),
+        4 => bracket(r, false),
+        5 => r.one(&["pc", "psp"]).to_string(),
+        6 => r.one(&["main", "f", "nowhere", "r10"]).to_string(),
+        _ => r.one(&[".LBL0_0", ".LBL9_9", "[LBL0_0", "xLBL0_0"]).to_string(),
+    };
+    let mut rows: Vec<Row> = ["main:", ".LBL0_0:", "f:"].map(|label| vec![label.to_string()]).to_vec();
+    for _ in 0..1 + r.below(3) {
+        let mnemonic = if r.below(3) == 0 { r.one(&["mload", "mstore"]) } else { r.one(&MNEMONICS) };
+        let count = match mnemonic {
+            "ret" | "end" => 0,
+            "jmp" | "call" | "range" | "assert" => 1,
+            "mload" | "mstore" | "mov" | "not" | "sigcheck" | "cjmp" | "sccall" | "sload" | "sstore" | "tstore" | "log" => 2,
+            _ => 3,
+        };
+        let mut row = vec![mnemonic.to_string()];
+        row.extend((0..count).map(|_| operand(r)));
+        rows.insert(r.below(rows.len() + 1), row);
+    }
+    Case::Source { source: plainly(&rows), prophets: vec![] }
 }
 
 // ---- damage

@@ -1,11 +1,12 @@
 //! Runs the port beside the Rust and compares every result: acceptance, refusals and details, label addresses, hosts and prophets kept, words and bytecode,
-//! instructions read, listing rows, encodings, and what is left in every lent buffer, past its end too. Where document 01 departs from the Rust, or says what
-//! the Rust does not tell, paper.rs takes the Rust's place.
+//! instructions read, listing rows, encodings, the room of a source, and what is left in every lent buffer, past its end too. Where document 01 departs from
+//! the Rust, or 01 or 02 says what the Rust does not tell, paper.rs takes the Rust's place.
 //!   compare [COUNT] [SEED]      default 20000 and 1
 //! First the cases of the papers and, from the file that MANUAL names, the manual's examples, then the whole lists (of a small count every so-many-th of them,
 //! at most half of the count), then random cases.
 //! With DRY=1 only the Rust runs. With TRACE=1 each case is printed before it runs.
-//! Exit status: 0 no difference; 1 a difference, or a function of the port that was never called.
+//! Exit status: 0 no difference; 1 a difference, a function of the port that was never called, a source whose room was not asked for, or the Rust never asked
+//! for a counted length.
 mod check;
 mod generate;
 mod lists;
@@ -16,7 +17,7 @@ mod port;
 mod random;
 mod shrink;
 
-use check::{Case, Checker, Expected};
+use check::{Case, Checker, Expected, Rooms};
 use generate::{GENERATORS, LARGE_EVERY};
 use random::Random;
 use std::panic::{catch_unwind, AssertUnwindSafe};
@@ -24,6 +25,8 @@ use std::sync::atomic::Ordering::Relaxed;
 
 /// Differences printed whole; more are only counted.
 const PRINTED: usize = 20;
+/// Of one in so many of the sources that it accepts the Rust is asked for the counted length.
+const COUNTED_EVERY: u64 = 8;
 
 struct Run {
     checker: Checker,
@@ -142,6 +145,10 @@ impl Run {
             let list: Vec<String> = self.checker.answers.iter().filter_map(told).collect();
             println!("  {what}  {}", list.join(", "));
         }
+        let Rooms { sources, by_rust, by_paper, counted, above } = self.checker.rooms;
+        println!("The room of {sources} source cases, and what told it:");
+        println!("  refusals 1 to 6: {}, the Rust: {by_rust}, the papers alone: {by_paper}", sources - by_rust - by_paper);
+        println!("  the Rust was asked for the counted length of {counted}; {above} have more words than their counted length");
         println!("Calls of the port:");
         for (name, calls) in &port::CALLS {
             println!("  {name}  {}", calls.load(Relaxed));
@@ -149,9 +156,11 @@ impl Run {
         println!("{} cases, {} differences", self.cases, self.differences);
     }
 
-    /// Whether a function of the port was never called, though its answers were to be compared.
+    /// Whether something was not asked that was to be compared: a function of the port, the room of a source, a counted length of the Rust.
     fn left_out(&self) -> bool {
-        !self.checker.dry && port::CALLS.iter().any(|(_, calls)| calls.load(Relaxed) == 0)
+        let Rooms { sources, counted, .. } = self.checker.rooms;
+        let called = port::CALLS.iter().all(|(_, calls)| calls.load(Relaxed) > 0) && port::room_calls() >= sources;
+        counted == 0 || !self.checker.dry && !called
     }
 }
 
@@ -161,7 +170,7 @@ fn main() {
     let seed = arguments.get(1).copied().unwrap_or(1);
     let set = |name: &str| std::env::var(name).is_ok_and(|value| value == "1");
     oracle::silence();
-    let mut run = Run { checker: Checker::new(set("DRY")), trace: set("TRACE"), cases: 0, differences: 0, counts: vec![] };
+    let mut run = Run { checker: Checker::new(set("DRY"), COUNTED_EVERY), trace: set("TRACE"), cases: 0, differences: 0, counts: vec![] };
     run.named();
     if let Ok(path) = std::env::var("MANUAL") {
         run.manual(&path);

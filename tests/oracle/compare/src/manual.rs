@@ -1,7 +1,7 @@
 //! The examples of docs/MANUAL.md, as `tests/manual/check --cases` prints them: a line each, of what kind it is, what is given, the prophet list, and what the
 //! manual says of it where that is the Rust's to tell.
 use crate::check::{Case, Expected};
-use crate::port::{NumberedInstruction, NumberedPlace};
+use crate::port::{Figures, NumberedInstruction, NumberedPlace};
 use oracle::{Instruction, Place};
 
 pub struct Example {
@@ -30,9 +30,16 @@ fn expected(said: &str) -> Expected {
     match what {
         "refused" => Expected::Refused(numbers(rest)[0], numbers(rest)[1]),
         "words" => Expected::Words(numbers(rest)),
+        "room" => room(&numbers(rest)),
         "rows" => Expected::Rows(rest.split(',').filter(|row| !row.is_empty()).map(text).collect()),
         _ => Expected::Text(text(rest)),
     }
+}
+
+/// The label rows, instructions, counted length and words that the manual tells of a source.
+fn room(n: &[u64]) -> Expected {
+    let [labels, instructions, counted, words] = *n else { panic!("a room of the manual has four figures") };
+    Expected::Room(Figures { labels, instructions, counted, words, ..Figures::default() })
 }
 
 fn bytes(hexadecimal: &str) -> Vec<u8> {

@@ -1,6 +1,7 @@
-//! The cases of document 01 and of the readings of it, with what the papers say of them.
+//! The cases of document 01, of document 02's Point 1 and of the readings of them, with what the papers say of them.
 use crate::check::{Case, Expected};
 use crate::paper::ORDER;
+use crate::port::Figures;
 use oracle::{Instruction, Place};
 
 pub struct Named {
@@ -41,11 +42,29 @@ fn refused(number: u64, detail: u64) -> Expected {
     Expected::Refused(number, detail)
 }
 
+fn room(labels: u64, instructions: u64, counted: u64, words: u64) -> Expected {
+    Expected::Room(Figures { refusal: 0, detail: 0, labels, instructions, counted, words })
+}
+
+fn no_room(refusal: u64, detail: u64) -> Expected {
+    Expected::Room(Figures { refusal, detail, labels: 0, instructions: 0, counted: 0, words: 0 })
+}
+
 pub fn all() -> Vec<Named> {
-    [scope_sources(), scope_bytecodes(), refusals(), reading_sources(), reading_lists(), reading_bytecodes(), reading_instructions(), limits()]
-        .into_iter()
-        .flatten()
-        .collect()
+    [
+        scope_sources(),
+        scope_bytecodes(),
+        refusals(),
+        rooms(),
+        reading_sources(),
+        reading_lists(),
+        reading_bytecodes(),
+        reading_instructions(),
+        limits(),
+    ]
+    .into_iter()
+    .flatten()
+    .collect()
 }
 
 /// A row of main, its words.
@@ -55,15 +74,16 @@ fn row(name: &'static str, text: &str, expected: Expected) -> Named {
 
 // ---- document 01
 
+const PRINTING: &str = "f:\nret\nmain:\nmov r1 -1\ncall f\n.PROPHET0_0:\nend";
+
 fn scope_sources() -> Vec<Named> {
-    let printing = "f:\nret\nmain:\nmov r1 -1\ncall f\n.PROPHET0_0:\nend";
     vec![
         source(
             "01, printing",
-            printing,
+            PRINTING,
             words(&[0x4000000208000000, 0xffffffff00000000, 0x4000000001000000, 5, 0x0000000000100000, 0x0000000000800000]),
         ),
-        listed("01, printing, host", printing, "label\n.PROPHET0_0", hosts(&[2])),
+        listed("01, printing, host", PRINTING, "label\n.PROPHET0_0", hosts(&[2])),
         row("01, pc", "mov r1 pc", words(&[0x0000000208000000])),
         row("01, psp", "mov r1 psp", words(&[0x0000000208000000])),
         row("01, offset 0", "mload r1 [r2]", words(&[0x4040000200400000, 0])),
@@ -80,7 +100,7 @@ fn scope_sources() -> Vec<Named> {
         row("01, -0", "mov r1 -0", words(&[0x4000000208000000, 0])),
         row("01, -2^127", "mov r1 -170141183460469231731687303715884105728", refused(3, 1)),
         row("01, a label row that no operand can name", "call f.1\nf.1:\nret", refused(3, 1)),
-        source("01, a name across scopes", "main:\nend\nf:\ng:\nret\nh:", Expected::Nothing),
+        source("01, a name across scopes", "main:\nend\nf:\ng:\nret\nh:", room(4, 2, 2, 2)),
         source(
             "01, of equal names the last mapped",
             "main:\ncall f\nf:\nret\nf:\nend\nf:",
@@ -126,6 +146,44 @@ fn refusals() -> Vec<Named> {
         row("12", "mov 5 r1", refused(12, 0)),
         row("12, the first", "end\nadd r1 5 r2\nmov 5 r1", refused(12, 1)),
         row("12 after 11", "mov 5 r1\nmload r1 r2", refused(11, 1)),
+    ]
+}
+
+// ---- document 02, Point 1
+
+fn rooms() -> Vec<Named> {
+    vec![
+        row("room, words above the counted length", "mload r1 r2", room(1, 1, 1, 2)),
+        row("room, one word more in all", "mstore [r1] 5", room(1, 1, 3, 2)),
+        row("room, brackets outside mload and mstore", "mov r1 [r2]", room(1, 1, 2, 1)),
+        row("room, a number in dst", "mov 5 r1", room(1, 1, 1, 1)),
+        row("room, nothing looked up", "jmp nowhere", room(1, 1, 2, 2)),
+        source("room, main alone", "main:", room(1, 0, 0, 0)),
+        source("room, empty source", "", no_room(4, 0)),
+        source("room, no main", "f:\nret", no_room(5, 0)),
+        source("room, two mains", "main:\nmain:", no_room(6, 0)),
+        source("room, printing", PRINTING, room(3, 4, 6, 6)),
+        listed("room, whatever the list", PRINTING, "label\nx", room(3, 4, 6, 6)),
+        listed("room, a list of another form", "main:\nend", "x", room(1, 1, 1, 1)),
+        row("room, mload", "mload r1 [r2]", room(1, 1, 2, 2)),
+        row("room, mstore", "mstore [r1,r2,3] r4", room(1, 1, 2, 2)),
+        row("room, mload of psp", "mload r1 psp", room(1, 1, 1, 2)),
+        row("room, mstore of numbers alone", "mstore 5 6", room(1, 1, 3, 2)),
+        row("room, mload of a number", "mload r1 5", room(1, 1, 2, 2)),
+        row("room, a number in mload's dst", "mload 5 [r2]", room(1, 1, 2, 2)),
+        row("room, a number in op0", "add r1 5 r2", room(1, 1, 2, 1)),
+        row("room, a number in op1", "add r1 r2 5", room(1, 1, 2, 2)),
+        row("room, numbers in both", "add r1 5 6", room(1, 1, 3, 2)),
+        row("room, numbers everywhere", "add 4 5 6", room(1, 1, 3, 2)),
+        row("room, brackets in both", "eq r1 [r2] [r3,4]", room(1, 1, 3, 1)),
+        row("room, brackets in op1 alone", "jmp [r1,r2]", room(1, 1, 2, 1)),
+        row("room, pc", "cjmp r1 pc", room(1, 1, 1, 1)),
+        row("room, a label", "cjmp r1 .LBL1_1", room(1, 1, 2, 2)),
+        row("room, a label that begins as brackets do", "jmp [LBL1_1", room(1, 1, 2, 2)),
+        row("room, a name that begins as a register does", "call r10", room(1, 1, 2, 2)),
+        row("room, label rows of each kind", ".LBL1_1:\n.PROPHET1_1:\nf.1:\nend\n.PROPHET1_1:", room(5, 1, 1, 1)),
+        source("room, a byte above 127", "main:\nend\u{e4}", no_room(2, 9)),
+        row("room, an unreadable row", "ret\n\nret 5\nx", no_room(3, 2)),
     ]
 }
 
@@ -289,10 +347,11 @@ fn limits() -> Vec<Named> {
     vec![
         source("65,536 bytes", &filled("main:\nend", 65_536), words(&[0x0000000000100000])),
         source("65,537 bytes", &filled("main:\nend", 65_537), refused(1, 0)),
-        source("65,534 bytes of rows", &format!("main:\n\n\n\n\n{}", ends(65_526)), Expected::Nothing),
+        source("65,534 bytes of rows", &format!("main:\n\n\n\n\n{}", ends(65_526)), room(1, 16_381, 16_381, 16_381)),
+        source("as many words as fit", &format!("main:\n{}end", "jmp 1\n".repeat(10_921)), room(1, 10_922, 21_843, 21_843)),
         source("as many label rows as fit", &format!("main:\n{}", "b:\n".repeat(21_843)), words(&[])),
         source("as many label rows as fit, mapped", &format!("main:\n{}end", "b:\n".repeat(21_842)), words(&[0x0000000000100000])),
-        source("labels and jumps", &format!("main:\na:\n{}{}", "b:\n".repeat(3_000), "jmp a\n".repeat(1_500)), Expected::Nothing),
+        source("labels and jumps", &format!("main:\na:\n{}{}", "b:\n".repeat(3_000), "jmp a\n".repeat(1_500)), room(3_002, 1_500, 3_000, 3_000)),
         source("65,537 bytes, no row", &" ".repeat(65_537), refused(1, 0)),
         source("65,536 bytes, no row", &" ".repeat(65_536), refused(4, 0)),
         source("65,536 bytes above 127", &"\u{e4}".repeat(32_768), refused(2, 0)),

@@ -1,6 +1,6 @@
-//! What document 01 says and the Rust does not tell: the label table of a source whose rows are all readable, the form of a prophet list, the
-//! limits, and how words are printed.
-use crate::port::Label;
+//! What documents 01 and 02 say and the Rust does not tell: the label table and the figures of a source whose rows are all readable, the form of a prophet
+//! list, the limits, and how words are printed.
+use crate::port::{Figures, Label};
 
 pub const SOURCE_LIMIT: usize = 65_536;
 pub const LIST_LIMIT: usize = 16_384;
@@ -57,12 +57,37 @@ fn kind(row: &str) -> Option<u8> {
     })
 }
 
-/// "Counted length: 1, plus 1 for op0 and 1 for op1 where it is a number, name, label or bracketed": whatever is no register and neither pc nor psp.
+/// Whether an operand is a register, pc or psp; whatever is none of these is a number, name, label or bracketed.
+fn plain(operand: &str) -> bool {
+    operand == "pc" || operand == "psp" || (operand.len() == 2 && operand.starts_with('r') && operand.as_bytes()[1].is_ascii_digit())
+}
+
+/// "Counted length: 1, plus 1 for op0 and 1 for op1 where it is a number, name, label or bracketed".
 fn counted_length(row: &str) -> u64 {
     let pieces: Vec<&str> = row.split_whitespace().collect();
     let dst_first = pieces.len() == 4 || ["mov", "not", "mload", "sigcheck"].contains(&pieces[0]);
-    let plain = |piece: &str| piece == "pc" || piece == "psp" || (piece.len() == 2 && piece.starts_with('r') && piece.as_bytes()[1].is_ascii_digit());
     1 + pieces.iter().skip(if dst_first { 2 } else { 1 }).filter(|piece| !plain(piece)).count() as u64
+}
+
+/// "The words: one for an instruction, one more for mload, mstore or an op1 that is a number, name or label". The last operand of a row is op1. A label may
+/// begin with `[`, but only what is bracketed ends with `]`.
+fn word_count(row: &str) -> u64 {
+    let pieces: Vec<&str> = row.split_whitespace().collect();
+    let memory = ["mload", "mstore"].contains(&pieces[0]);
+    let op1 = pieces[1..].last();
+    1 + u64::from(memory || op1.is_some_and(|op1| !plain(op1) && !op1.ends_with(']')))
+}
+
+/// "The label rows, the instructions, the counted length and the words" of a source, where every row is readable.
+pub fn figures(source: &str) -> Figures {
+    let (labels, instructions): (Vec<&str>, Vec<&str>) = rows(source).into_iter().map(|(_, row)| row).partition(|row| kind(row).is_some());
+    Figures {
+        labels: labels.len() as u64,
+        instructions: instructions.len() as u64,
+        counted: instructions.iter().map(|row| counted_length(row)).sum(),
+        words: instructions.iter().map(|row| word_count(row)).sum(),
+        ..Figures::default()
+    }
 }
 
 /// How many main scopes a source has, and its label table, where every row is readable.

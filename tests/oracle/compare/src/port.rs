@@ -4,7 +4,7 @@ use oracle::{Instruction, Place};
 use std::sync::atomic::{AtomicU64, Ordering::Relaxed};
 
 /// The functions of the header, and how often each was called.
-pub static CALLS: [(&str, AtomicU64); 9] = [
+pub static CALLS: [(&str, AtomicU64); 10] = [
     ("ola_assemble", AtomicU64::new(0)),
     ("ola_assemble_parts", AtomicU64::new(0)),
     ("ola_label_name", AtomicU64::new(0)),
@@ -14,10 +14,16 @@ pub static CALLS: [(&str, AtomicU64); 9] = [
     ("ola_next_at", AtomicU64::new(0)),
     ("ola_encode", AtomicU64::new(0)),
     ("ola_listing_row", AtomicU64::new(0)),
+    ("ola_room_of", AtomicU64::new(0)),
 ];
 
 fn called(function: usize) {
     CALLS[function].1.fetch_add(1, Relaxed);
+}
+
+/// How often `ola_room_of` was called.
+pub fn room_calls() -> u64 {
+    CALLS[9].1.load(Relaxed)
 }
 
 #[repr(C)]
@@ -39,6 +45,18 @@ pub struct Assembly {
     pub words: u64,
     pub hosts: u64,
     pub kept: u64,
+}
+
+/// What a source takes. `Room` is what is lent.
+#[repr(C)]
+#[derive(Debug, Clone, Copy, PartialEq, Eq, Default)]
+pub struct Figures {
+    pub refusal: u64,
+    pub detail: u64,
+    pub labels: u64,
+    pub instructions: u64,
+    pub counted: u64,
+    pub words: u64,
 }
 
 #[repr(C)]
@@ -141,6 +159,7 @@ mod sys {
         pub fn ola_next_at(text: *const u8, text_len: usize, offset: usize) -> Step;
         pub fn ola_encode(instruction: NumberedInstruction) -> Encoding;
         pub fn ola_listing_row(instruction: NumberedInstruction, text: *mut u8, text_len: usize) -> Written;
+        pub fn ola_room_of(source: *const u8, source_len: usize) -> Figures;
     }
 }
 
@@ -279,6 +298,11 @@ pub fn encode(instruction: NumberedInstruction) -> Encoding {
 pub fn listing_row(instruction: NumberedInstruction, room: usize, text: &mut [u8]) -> Written {
     called(8);
     unsafe { sys::ola_listing_row(instruction, text.as_mut_ptr(), room) }
+}
+
+pub fn room_of(source: &[u8]) -> Figures {
+    called(9);
+    unsafe { sys::ola_room_of(source.as_ptr(), source.len()) }
 }
 
 /// An instruction as the header numbers it; what a content does not have is 0.
