@@ -1,6 +1,6 @@
 /* Answers calls of include/ola.h that tests/manual/check asks for, one a line on standard input, in words and numbers on standard output. Texts are
    hexadecimal, `-` where empty. Every lent buffer is filled with a mark first and has entries past its end; a line `fault` says what was touched that
-   should not be, and where the two forms of assembling, or the two ways of reading on, do not agree. */
+   should not be, and where the two forms of assembling, the room told and the build, or the two ways of reading on, do not agree. */
 #include <inttypes.h>
 #include <stdio.h>
 #include <stdlib.h>
@@ -85,52 +85,109 @@ static void put_numbers(const char *what, const uint64_t *list, uint64_t count)
     printf("\n");
 }
 
+/* A source and a prophet list, and what assembling them by ola_assemble_parts wrote. */
+struct build {
+    uint8_t *source, *list;
+    size_t source_len, list_len, host_room, filled;
+    ola_assembly told;
+    uint8_t *kinds;
+    bool *mapped;
+    size_t *starts, *lengths;
+    uint64_t *addresses, *words, *hosts;
+};
+
+/* Whether ola_assemble answers and writes the same, with so many entries and words. */
+static int again(const struct build *b, size_t entries, size_t word_room)
+{
+    ola_label *table = lent(entries, sizeof *table);
+    for (size_t i = 0; i < entries; i++)
+        table[i].mapped = false;
+    uint64_t *words = lent(word_room, sizeof *words), *hosts = lent(b->host_room, sizeof *hosts);
+    ola_assembly a = ola_assemble(b->source, b->source_len, b->list, b->list_len, table, entries, words, word_room, hosts, b->host_room);
+    int same = !memcmp(&a, &b->told, sizeof a) && !memcmp(words, b->words, a.words * sizeof *words) && !memcmp(hosts, b->hosts, a.hosts * sizeof *hosts);
+    for (size_t i = 0; i < b->filled; i++)
+        same = same && table[i].kind == b->kinds[i] && table[i].mapped == b->mapped[i] && table[i].start == b->starts[i]
+               && table[i].length == b->lengths[i] && table[i].address == b->addresses[i];
+    for (size_t i = b->filled; i < entries; i++)
+        same = same && table[i].kind == MARK;
+    untouched("what is past the entries", table, entries, entries, sizeof *table);
+    untouched("the words", words, a.words, word_room, sizeof *words);
+    untouched("the hosts", hosts, a.hosts, b->host_room, sizeof *hosts);
+    free(table);
+    free(words);
+    free(hosts);
+    return same;
+}
+
+/* How many of an accepted source's words are first ones. */
+static uint64_t first_words(const uint64_t *words, uint64_t count)
+{
+    uint64_t firsts = 0;
+    for (uint64_t i = 0; i < count; i += words[i] & (1ull << 62 | 1ull << 22 | 1ull << 21) ? 2 : 1)
+        firsts += 1;
+    return firsts;
+}
+
+/* What ola_room_of tells of the source, beside what assembling answered with so much room. */
+static void beside_room(const struct build *b, size_t entries, size_t word_room)
+{
+    ola_room r = ola_room_of(b->source, b->source_len);
+    ola_assembly a = b->told;
+    if (r.refusal || (a.refusal && a.refusal <= 6)) {
+        if (r.refusal > 6 || r.refusal != a.refusal || r.detail != a.detail || r.labels || r.instructions || r.counted || r.words)
+            printf("fault ola_room_of refuses otherwise than assembling\n");
+        return;
+    }
+    if ((a.refusal == 7) != (entries < r.labels) || (a.refusal != 7 && b->filled != r.labels)) {
+        printf("fault the figures' label rows are not those of the table\n");
+        return;
+    }
+    if (!a.refusal && (r.words != a.words || r.instructions != first_words(b->words, a.words) || r.words > r.counted))
+        printf("fault the figures are not those of the words\n");
+    if (entries >= r.labels && word_room >= r.words && !again(b, r.labels, r.words))
+        printf("fault with just so much room as the figures tell, assembling answers otherwise\n");
+}
+
 static void assemble(void)
 {
-    size_t source_len, list_len;
-    uint8_t *source = text(&source_len), *list = text(&list_len);
-    size_t entries = number(), word_room = number(), host_room = number();
-    uint8_t *kinds = lent(entries, 1);
-    bool *mapped = lent(entries, sizeof *mapped);
-    memset(mapped, 0, entries * sizeof *mapped);
-    size_t *starts = lent(entries, sizeof *starts), *lengths = lent(entries, sizeof *lengths);
-    uint64_t *addresses = lent(entries, sizeof *addresses), *words = lent(word_room, sizeof *words), *hosts = lent(host_room, sizeof *hosts);
-    ola_assembly a = ola_assemble_parts(source, source_len, list, list_len, kinds, entries, mapped, entries, starts, entries, lengths, entries,
-                                        addresses, entries, words, word_room, hosts, host_room);
+    struct build b;
+    b.source = text(&b.source_len);
+    b.list = text(&b.list_len);
+    size_t entries = number(), word_room = number();
+    b.host_room = number();
+    b.kinds = lent(entries, 1);
+    b.mapped = lent(entries, sizeof *b.mapped);
+    memset(b.mapped, 0, entries * sizeof *b.mapped);
+    b.starts = lent(entries, sizeof *b.starts);
+    b.lengths = lent(entries, sizeof *b.lengths);
+    b.addresses = lent(entries, sizeof *b.addresses);
+    b.words = lent(word_room, sizeof *b.words);
+    b.hosts = lent(b.host_room, sizeof *b.hosts);
+    ola_assembly a = b.told = ola_assemble_parts(b.source, b.source_len, b.list, b.list_len, b.kinds, entries, b.mapped, entries, b.starts, entries,
+                                                 b.lengths, entries, b.addresses, entries, b.words, word_room, b.hosts, b.host_room);
     size_t filled = 0;
-    while (filled < entries && kinds[filled] != MARK)
+    while (filled < entries && b.kinds[filled] != MARK)
         filled += 1;
+    b.filled = filled;
     printf("assembled %" PRIu64 " %" PRIu64 " %" PRIu64 " %" PRIu64 "\n", a.refusal, a.detail, a.labels, a.kept);
-    put_numbers("words", words, a.words);
-    put_numbers("hosts", hosts, a.hosts);
+    put_numbers("words", b.words, a.words);
+    put_numbers("hosts", b.hosts, a.hosts);
     for (size_t i = 0; i < filled; i++)
-        printf("entry %u %d %zu %zu %" PRIu64 "\n", kinds[i], mapped[i], starts[i], lengths[i], addresses[i]);
-    untouched("the kinds", kinds, filled, entries, 1);
-    untouched("the starts", starts, filled, entries, sizeof *starts);
-    untouched("the lengths", lengths, filled, entries, sizeof *lengths);
-    untouched("the addresses", addresses, filled, entries, sizeof *addresses);
-    untouched("the words", words, a.words, word_room, sizeof *words);
-    untouched("the hosts", hosts, a.hosts, host_room, sizeof *hosts);
+        printf("entry %u %d %zu %zu %" PRIu64 "\n", b.kinds[i], b.mapped[i], b.starts[i], b.lengths[i], b.addresses[i]);
+    untouched("the kinds", b.kinds, filled, entries, 1);
+    untouched("the starts", b.starts, filled, entries, sizeof *b.starts);
+    untouched("the lengths", b.lengths, filled, entries, sizeof *b.lengths);
+    untouched("the addresses", b.addresses, filled, entries, sizeof *b.addresses);
+    untouched("the words", b.words, a.words, word_room, sizeof *b.words);
+    untouched("the hosts", b.hosts, a.hosts, b.host_room, sizeof *b.hosts);
     if (a.refusal && a.refusal <= 7 && filled)
         printf("fault refusal %" PRIu64 " filled the table\n", a.refusal);
     if (!a.refusal && a.labels != filled)
         printf("fault %" PRIu64 " entries told, %zu filled\n", a.labels, filled);
-
-    ola_label *table = lent(entries, sizeof *table);
-    for (size_t i = 0; i < entries; i++)
-        table[i].mapped = false;
-    uint64_t *other_words = lent(word_room, sizeof *words), *other_hosts = lent(host_room, sizeof *hosts);
-    ola_assembly b = ola_assemble(source, source_len, list, list_len, table, entries, other_words, word_room, other_hosts, host_room);
-    int same = !memcmp(&a, &b, sizeof a) && !memcmp(words, other_words, (word_room + PAST) * sizeof *words)
-               && !memcmp(hosts, other_hosts, (host_room + PAST) * sizeof *hosts);
-    for (size_t i = 0; i < filled; i++)
-        same = same && table[i].kind == kinds[i] && table[i].mapped == mapped[i] && table[i].start == starts[i] && table[i].length == lengths[i]
-               && table[i].address == addresses[i];
-    for (size_t i = filled; i < entries; i++)
-        same = same && table[i].kind == MARK;
-    if (!same)
+    if (!again(&b, entries, word_room))
         printf("fault ola_assemble and ola_assemble_parts do not agree\n");
-    for (void **p = (void *[]){source, list, kinds, mapped, starts, lengths, addresses, words, hosts, table, other_words, other_hosts, NULL}; *p; p++)
+    beside_room(&b, entries, word_room);
+    for (void **p = (void *[]){b.source, b.list, b.kinds, b.mapped, b.starts, b.lengths, b.addresses, b.words, b.hosts, NULL}; *p; p++)
         free(*p);
 }
 
@@ -238,6 +295,13 @@ static void answer(const char *what)
         entry.length = number();
         ola_name n = ola_label_name(source, length, entry);
         printf("name %zu %zu\n", n.start, n.length);
+        free(source);
+    } else if (!strcmp(what, "room")) {
+        size_t length;
+        uint8_t *source = text(&length);
+        ola_room r = ola_room_of(source, length);
+        uint64_t figures[] = {r.refusal, r.detail, r.labels, r.instructions, r.counted, r.words};
+        put_numbers("room", figures, 6);
         free(source);
     } else {
         size_t length;
