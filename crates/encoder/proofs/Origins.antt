@@ -12,6 +12,7 @@ use Rattle.vm_opcodes.specs.declared.RowPlaces.the-variants.{DstOp0Op1, DstOp1,
 use Rattle.vm_hardware.specs.declared.OlaRegister.{OlaRegister}
 use Rattle.vm_operands.specs.declared.ImmediateValue.{ImmediateValue}
 use Rattle.vm_operands.specs.declared.OlaOperand.the-variants.{ImmediateOperand as ANumber, RegisterOperand as ARegister, RegisterWithFactor as AFactor}
+use Rattle.asm.specs.Rows.{counted}
 use Rattle.asm.specs.Survey.{isMemoryRow}
 use Rattle.asm.specs.declared.OlaAsmOperand.{OlaAsmOperand}
 use Rattle.asm.specs.declared.OlaAsmOperand.the-variants.{Empty, ImmediateOperand, RegisterOperand, RegisterWithOffset, RegisterWithFactoredRegOffset, SpecialReg, Label, Identifier}
@@ -41,6 +42,11 @@ pub data Anchored (o : OlaOpcode) : OlaAsmOperand → OlaAsmOperand → BinaryIn
   by-offset : (a d : OlaRegister) (v : ImmediateValue) → Anchored o (RegisterWithOffset a v) (RegisterOperand d) (made o (ARegister a) (ANumber v) (ARegister d))
   by-factor : (a t d : OlaRegister) (v : ImmediateValue)
       → Anchored o (RegisterWithFactoredRegOffset a t v) (RegisterOperand d) (made o (ARegister a) (AFactor t v) (ARegister d))
+
+-- a memory operand counts 1, its value nothing
+pub anchored-counted : (o : OlaOpcode) (x y : OlaAsmOperand) (b : BinaryInstruction) → Anchored o x y b → (counted x ≡ 1) × (counted y ≡ 0) × (o ≡ b .opcode)
+anchored-counted o x y b (by-offset a d v) = (refl, refl, refl)
+anchored-counted o x y b (by-factor a t d v) = (refl, refl, refl)
 
 -- the canonical instruction of a row
 pub data Origin (names : Names) (k : ℕ) (i : OlaAsmInstruction) (b : BinaryInstruction) : Type 0 where

@@ -3,19 +3,16 @@ use Prim.Native.Nat.{ℕ, _+_, _≤_}
 use mathlib.Core.Path.{_≡_, refl, sym, ap, subst, _∙_}
 use mathlib.Core.List.{List, [], _∷_, _++_, map}
 use mathlib.Core.Bool.{Bool, true, false, _||_}
-use mathlib.Core.Option.{Option, none, some}
+use mathlib.Core.Option.{none}
 use native.Mathlib.Omega.{arith}
 use borrow.Author.Needs.{needs}
 use borrow.Author.Tests.{le-leb, ltb-false, le-ltb}
 use lib.ListN.{length, take, drop, length-map, length-append, length-take}
 use lib.Seq.{sets, length-take-le}
-use Rattle.text.specs.Lists.{total}
 use Rattle.text.specs.Answer.{Answer, ok, refused, _>>=_, _>>_, over, onOk}
 use Rattle.text.proofs.AnswerLaws.{not-ok, ok-same, ok-bind, if-passed, at-passed, sets-over}
 use Rattle.asm.specs.Rows.{instructions}
-use Rattle.asm.specs.Survey.{wordCount}
 use Rattle.asm.specs.declared.AsmRow.{AsmRow}
-use Rattle.asm.specs.declared.OlaAsmInstruction.{OlaAsmInstruction}
 use Rattle.relocate.specs.Labels.{labelRows, entryOf, tableOf}
 use Rattle.relocate.specs.Prophets.{keptCount}
 use Rattle.relocate.specs.Relocate.{tabled, hostsOf, relocateNumber, relocateDetail}
@@ -38,9 +35,9 @@ use Rattle.encoder.specs.declared.AssembleRefusal.the-variants.{Relocate}
 use Rattle.encoder.specs.declared.Assembly.{Assembly}
 use Rattle.encoder.specs.declared.Assembly.the-variants.{Refused as NotAssembled, Assembled}
 use Rattle.encoder.specs.declared.Totals.{Totals}
+use Rattle.encoder.proofs.RowWordLaws.{program-words}
 use Rattle.encoder_canonical.specs.Held.{heldProgram}
 use Rattle.encoder_canonical.proofs.HeldLaws.{held-program}
-use Rattle.encoder_canonical.proofs.WordLaws.{program-words}
 use Rattle.encoder_checks.specs.Checked.{checkedNumbered, checkedOf}
 use Rattle.encoder_checks.specs.declared.Checked.{Checked}
 use Rattle.encoder_checks.specs.declared.Checked.the-variants.{Is, Refused}
@@ -104,7 +101,7 @@ module _ (s list : List ℕ) (n : ℕ) (l : Layout) (h : measured s n ≡ ok l) 
   program-held = rw (t, sorted-is) (held-program s (layoutRows s l) 0 (instructions (layoutRows s l)))
 
   words-counted : (bs : List BinaryInstruction) → canonicalProgram s (layoutRows s l) ≡ ok bs → firstMisplaced 0 bs ≡ none → length (programWords bs) ≡ l .words
-  words-counted bs e m = program-words s look 0 0 (sortedInstructions s (l .start) (l .end)) bs (program-held ∙ e) m ∙ ap (λ (is : List OlaAsmInstruction). total (map wordCount is)) sorted-is ∙ sym (measured-words s n l h)
+  words-counted bs e m = program-words s (layoutRows s l) bs e m ∙ sym (measured-words s n l h)
 
   module _ (entries wordroom hostroom : ℕ) where
     together : checkedOf s list look l wordroom hostroom ≡ hostsIn (encodedRows s (layoutRows s l) list (record { entries = entries; words = wordroom; hosts = hostroom }))

@@ -1,9 +1,10 @@
 -- With the label table of sorted rows, a row made canonical by the table is the row made canonical by the sorted rows.
 use Prim.Native.Nat.{ℕ, suc}
-use mathlib.Core.Path.{_≡_, refl, _∙_}
+use mathlib.Core.Path.{_≡_, refl, ap, _∙_}
 use mathlib.Core.List.{List, [], _∷_}
 use mathlib.Core.Option.{Option, none, some}
 use Rattle.text.specs.Answer.{Answer, ok, refused, _>>=_}
+use Rattle.text.proofs.AnswerLaws.{not-ok, ok-same}
 use Rattle.vm_opcodes.specs.Operations.{rowPlaces}
 use Rattle.vm_opcodes.specs.declared.OlaOpcode.{OlaOpcode}
 use Rattle.vm_opcodes.specs.declared.RowPlaces.{RowPlaces}
@@ -24,11 +25,19 @@ use Rattle.encoder.specs.Canonical.{Names, namesOf, holderOf, lookedUp, plain, 
 use Rattle.encoder_canonical.specs.Held.{heldNumber, heldPlain, together, heldGeneral, heldAnchored, heldMemory, heldBy, heldCanonical, canonicalNumbered, heldProgram}
 use Rattle.encoder_canonical.specs.declared.Resolved.{Resolved}
 use Rattle.encoder_canonical.specs.declared.Resolved.the-variants.{Is, Unknown}
+use Rattle.encoder_canonical.specs.declared.Canonical.{Canonical}
+use Rattle.encoder_canonical.specs.declared.Canonical.the-variants.{Is as Made, Unknown as NameUnknown, Misused}
 
 -- 10, at instruction k
 abbrev resolvedNumbered : ℕ → Resolved → Answer OlaOperand
 resolvedNumbered k (Is c) = ok c
 resolvedNumbered k Unknown = refused 10 k
+
+-- an accepted row is one that was made
+pub numbered-made : (k : ℕ) (f : Canonical) (b : BinaryInstruction) → canonicalNumbered k f ≡ ok b → f ≡ Made b
+numbered-made k (Made c) b e = ap Made (ok-same e)
+numbered-made k NameUnknown b e = absurd (not-ok e)
+numbered-made k Misused b e = absurd (not-ok e)
 
 -- three places together
 abbrev inTurn : OlaOpcode → Answer OlaOperand → Answer OlaOperand → Answer OlaOperand → Answer BinaryInstruction

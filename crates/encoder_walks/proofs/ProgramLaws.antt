@@ -9,7 +9,7 @@ use Rattle.program.specs.declared.BinaryInstruction.{BinaryInstruction}
 use Rattle.relocate.specs.Columns.{LookUp}
 use Rattle.encoder_canonical.specs.Held.{heldCanonical, canonicalNumbered, heldProgram}
 use Rattle.encoder_canonical.specs.declared.Canonical.the-variants.{Is as Made}
-use Rattle.encoder_canonical.proofs.WordLaws.{numbered-made}
+use Rattle.encoder_canonical.proofs.HeldLaws.{numbered-made}
 
 -- an accepted program: its first row, and the rest
 pub record Accepted (s : List ℕ) (look : LookUp) (k : ℕ) (i : OlaAsmInstruction) (is : List OlaAsmInstruction) (bs : List BinaryInstruction) : Type 0 where

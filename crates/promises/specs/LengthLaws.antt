@@ -2,11 +2,9 @@
 use Prim.Native.Nat.{ℕ, suc, _*_, _≤_}
 use mathlib.Core.Path.{_≡_, refl, sym, ap, subst, _∙_}
 use mathlib.Core.List.{List, [], _∷_, map}
-use mathlib.Core.Bool.{Bool, true, false, not, _||_, cond}
+use mathlib.Core.Bool.{Bool, true, false, not, _||_}
 use native.Mathlib.Omega.{arith}
 use borrow.Author.Tests.{not-true}
-use lib.Dec.{ltb}
-use lib.ListN.{length}
 use Rattle.text.specs.Lists.{total}
 use Rattle.text.specs.Answer.{ok}
 use Rattle.text.specs.All.{All, one-more}
@@ -19,23 +17,19 @@ use Rattle.vm_operands.specs.declared.OlaOperand.the-variants.{Empty as NoConte
 use Rattle.asm.specs.Rows.{instructions}
 use Rattle.asm.specs.declared.OlaAsmOperand.the-variants.{Empty}
 use Rattle.asm.specs.declared.OlaAsmInstruction.{OlaAsmInstruction}
-use Rattle.asm.specs.declared.AsmRow.{AsmRow}
 use Rattle.vm_opcodes.proofs.Laws.{every-operation}
 use Rattle.asm_laws.proofs.LengthLaws.{leastBytes, least-four, least-six, isBare, is-bare, BareIsEmpty}
 use Rattle.relocate_laws.proofs.LengthLaws.{sorted-length, sorted-bytes, sorted-bare}
 use Rattle.program.specs.Instructions.{isNumber, isMemory}
-use Rattle.program.specs.Words.{programWords, emittedLength}
+use Rattle.program.specs.Words.{emittedLength}
 use Rattle.program.specs.declared.BinaryInstruction.{BinaryInstruction}
 use Rattle.encoder.specs.Canonical.{Names, namesOf, plain, general, canonicalBy, canonicalOf, canonicalFrom}
 use Rattle.encoder.specs.Assemble.{Room, Accepted, assembled}
+use Rattle.encoder.proofs.RowWordLaws.{most-two}
 use Rattle.encoder.proofs.AcceptedLaws.{accepted-rows}
 use Rattle.decoder.specs.Open.{maxBytecodeBytes}
 
 -- ---- the words of an instruction
-
-pub most-two : (t : Bool) → cond t 2 1 ≤ 2
-most-two true = omega arith
-most-two false = omega arith
 
 emitted-most : (b : BinaryInstruction) → emittedLength b ≤ 2
 emitted-most b = most-two (isMemory (b .opcode) || isNumber (b .op1))

@@ -5,7 +5,7 @@ use mathlib.Core.List.{List, _∷_, map}
 use mathlib.Core.Bool.{Bool, true, false, not, _&&_, _||_, cond, true≢false, false≢true}
 use mathlib.Core.Option.{Option, none, some, Option·some-injective, Option·none-ne-some}
 use native.Mathlib.Omega.{arith}
-use lib.ListN.{length, take, getElem?}
+use lib.ListN.{take, getElem?}
 use Rattle.text.specs.Lists.{total}
 use Rattle.text.specs.Answer.{ok}
 use Rattle.text.specs.All.{All, none-left, one-more}
@@ -26,7 +26,7 @@ use Rattle.program.specs.Instructions.{aNumber, isNumber, isMemory}
 use Rattle.program.specs.Words.{emittedLength, wordsBefore}
 use Rattle.program.specs.declared.BinaryInstruction.{BinaryInstruction}
 use Rattle.encoder.specs.Canonical.{Names, namesOf, holderOf, lookedUp, plain, canonicalOf, canonicalProgram, firstMisplaced}
-use Rattle.encoder.proofs.Origins.{memory-rows, Resolved, Anchored, by-offset, by-factor, Origin, ordinary, load, store, canonical-origin}
+use Rattle.encoder.proofs.Origins.{memory-rows, anchored-counted, Resolved, Anchored, by-offset, by-factor, Origin, ordinary, load, store, canonical-origin}
 use Rattle.encoder.proofs.AcceptedLaws.{Pairs, no-pair, one-pair, canonical-pairs, WellPlaced, well-placed, looked-up}
 use Rattle.promises.specs.Terms.{isBracketed, isClean, allClean, operandAt, contentAt, HoldsCount}
 
@@ -60,11 +60,6 @@ plain-length : (m t : Bool) (x y : ℕ) → m ≡ false → x ≡ 0 → y ≡ co
 plain-length true t x y h p q = absurd (true≢false h)
 plain-length false true x y h p q = rw (p, q)
 plain-length false false x y h p q = rw (p, q)
-
--- a memory operand counts 1, its value nothing
-pub anchored-counted : (o : OlaOpcode) (x y : OlaAsmOperand) (b : BinaryInstruction) → Anchored o x y b → (counted x ≡ 1) × (counted y ≡ 0) × (o ≡ b .opcode)
-anchored-counted o x y b (by-offset a d v) = (refl, refl, refl)
-anchored-counted o x y b (by-factor a t d v) = (refl, refl, refl)
 
 memory-length : (m t : Bool) (x y : ℕ) → m ≡ true → x + y ≡ 1 → 1 + x + y ≡ cond (m || t) 2 1
 memory-length true t x y h e = omega arith
@@ -146,11 +141,6 @@ name-found names k i b (load p a) s place x e t =
     absurd (true≢false (sym t ∙ sym (ap isLookedUp e) ∙ load-nameless i b (s .load p) a place))
 name-found names k i b (store p a) s place x e t =
     absurd (true≢false (sym t ∙ sym (ap isLookedUp e) ∙ store-nameless i b (s .store p) a place))
-
--- as many instructions as rows
-pub pairs-length : (names : Names) (k : ℕ) (is : List OlaAsmInstruction) (bs : List BinaryInstruction) → Pairs names k is bs → length is ≡ length bs
-pairs-length names k is bs no-pair = refl
-pairs-length names k is bs (one-pair {is = js} {bs = cs} e p) = ap suc (pairs-length names (suc k) js cs p)
 
 -- the instruction at the index of a row, and how it was made
 pairs-at : (names : Names) (k : ℕ) (is : List OlaAsmInstruction) (bs : List BinaryInstruction) → Pairs names k is bs → (n : ℕ) (i : OlaAsmInstruction)

@@ -1,6 +1,6 @@
 -- The rows of an accepted source and the names in them, from the laws of names and what holds of every accepted source.
 use Prim.Native.Nat.{ℕ}
-use mathlib.Core.Path.{_≡_, refl, sym, ap, subst, _∙_}
+use mathlib.Core.Path.{_≡_, sym, subst, _∙_}
 use mathlib.Core.List.{List}
 use mathlib.Core.Bool.{true}
 use mathlib.Core.Option.{some}
@@ -17,9 +17,10 @@ use Rattle.relocate.specs.Relocate.{sortedOf}
 use Rattle.program.specs.declared.BinaryInstruction.{BinaryInstruction}
 use Rattle.encoder.specs.Canonical.{namesOf, canonicalProgram}
 use Rattle.encoder.specs.Assemble.{Room, Accepted, assembled}
-use Rattle.encoder.proofs.AcceptedLaws.{accepted-rows, canonical-pairs}
+use Rattle.encoder.proofs.RowWordLaws.{rows-length}
+use Rattle.encoder.proofs.AcceptedLaws.{accepted-rows}
 use Rattle.promises.specs.Terms.{allClean, operandAt, contentAt, HoldsCount}
-use Rattle.promises.specs.NameLaws.{pairs-length, names-are-word-counts}
+use Rattle.promises.specs.NameLaws.{names-are-word-counts}
 use Rattle.promises.specs.AcceptedLaws.{accepted-shaped}
 
 module _ (s prophets : List ℕ) (room : Room) (a : Accepted) (h : assembled s prophets room ≡ ok a) where
@@ -31,10 +32,7 @@ module _ (s prophets : List ℕ) (room : Room) (a : Accepted) (h : assembled s p
 
   -- an accepted source has rows, its program is theirs, and it has as many instructions as instruction rows
   pub rows-there : (rows : List AsmRow) × (sortedOf s ≡ ok rows) × (canonicalProgram s rows ≡ ok (a .program)) × (length (instructions rows) ≡ length (a .program))
-  rows-there =
-      let r = accepted-rows s prophets room a h in
-      let names = namesOf s (r .rows) in
-      (r .rows, r .sorted, r .canonical, pairs-length names 0 (instructions (r .rows)) (a .program) (canonical-pairs names 0 (instructions (r .rows)) (a .program) (r .canonical)))
+  rows-there = let r = accepted-rows s prophets room a h in (r .rows, r .sorted, r .canonical, rows-length s (r .rows) (a .program) (r .canonical))
 
   pub names-counted : (rows : List AsmRow) → sortedOf s ≡ ok rows → allClean (instructions rows) ≡ true
       → (k : ℕ) (i : OlaAsmInstruction) → getElem? (instructions rows) k ≡ some i

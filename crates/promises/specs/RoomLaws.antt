@@ -1,8 +1,8 @@
 -- Point 1: the figures of an accepted source are those of its build, its words are at most its counted length, and lending just so much is enough.
-use Prim.Native.Nat.{ℕ, suc, _+_, _≤_}
-use mathlib.Core.Path.{_≡_, refl, sym, ap, ap₂, _∙_, subst}
+use Prim.Native.Nat.{ℕ, suc, _≤_}
+use mathlib.Core.Path.{_≡_, refl, sym, ap, _∙_, subst}
 use mathlib.Core.List.{List, [], _∷_, map}
-use mathlib.Core.Bool.{Bool, true, false, _||_, cond}
+use mathlib.Core.Bool.{Bool, false, _||_}
 use mathlib.Core.Option.{Option, none, some}
 use native.Mathlib.Omega.{arith}
 use borrow.Author.Tests.{le-ltb}
@@ -12,113 +12,22 @@ use lib.Seq.{take-all}
 use Rattle.text.specs.Lists.{total}
 use Rattle.text.specs.Answer.{Answer, ok, refused, _>>=_, _>>_, refuseIf, refuseAt}
 use Rattle.text.proofs.AnswerLaws.{ok-same, ok-bind}
-use Rattle.vm_opcodes.specs.Operations.{rowPlaces}
-use Rattle.vm_operands.specs.declared.OlaOperand.{OlaOperand}
 use Rattle.asm.specs.Rows.{counted, countedLength, instructions}
-use Rattle.asm.specs.Survey.{isMemoryRow, takesWord, wordCount}
-use Rattle.asm.specs.declared.OlaAsmOperand.{OlaAsmOperand}
-use Rattle.asm.specs.declared.OlaAsmOperand.the-variants.{Empty, ImmediateOperand, RegisterOperand, RegisterWithOffset, RegisterWithFactoredRegOffset, SpecialReg, Label, Identifier}
 use Rattle.asm.specs.declared.OlaAsmInstruction.{OlaAsmInstruction}
 use Rattle.asm.specs.declared.AsmRow.{AsmRow}
-use Rattle.relocate.specs.Labels.{LabelRow, callKind, jmpKind, prophetKind, labelRows, addressOf, holder}
+use Rattle.relocate.specs.Labels.{prophetKind, labelRows, addressOf, holder}
 use Rattle.relocate.specs.Prophets.{listedLabels, hostFound, hostsFrom}
 use Rattle.relocate.specs.Relocate.{sortedOf, tabled, hostsOf}
 use Rattle.relocate.specs.Room.{figuresOf, roomOf}
 use Rattle.relocate.specs.declared.RoomFigures.{RoomFigures}
-use Rattle.program.specs.Instructions.{isNumber, isMemory}
-use Rattle.program.specs.Words.{emittedLength, programWords}
+use Rattle.program.specs.Words.{programWords}
 use Rattle.program.specs.declared.BinaryInstruction.{BinaryInstruction}
-use Rattle.program.proofs.FormLaws.{total-emitted}
-use Rattle.encoder.specs.Canonical.{Names, namesOf, holderOf, lookedUp, plain, canonicalProgram, firstMisplaced}
+use Rattle.encoder.specs.Canonical.{namesOf, canonicalProgram, firstMisplaced}
 use Rattle.encoder.specs.Assemble.{Room, Accepted, encodedRows, assembled}
-use Rattle.encoder.proofs.Origins.{memory-rows, Origin, ordinary, load, store, canonical-origin}
-use Rattle.encoder.proofs.AcceptedLaws.{Pairs, no-pair, one-pair, canonical-pairs, looked-up, canonical-form, accepted-rows}
+use Rattle.encoder.proofs.RowWordLaws.{program-words, words-within-length, rows-length}
+use Rattle.encoder.proofs.AcceptedLaws.{accepted-rows}
 use Rattle.promises.specs.LateLaws.{Late, ok-late, no-late, bind-late, if-late, at-late, head-late, hosts-late, program-late}
-use Rattle.promises.specs.NameLaws.{anchored-counted, pairs-length}
-use Rattle.promises.specs.LengthLaws.{most-two}
 use Rattle.promises.specs.NamePromise.{of-rows}
-
--- ---- one row
-
-found-words : (names : Names) (k : ℕ) (found : Option LabelRow) (c : OlaOperand) → lookedUp names k found ≡ ok c → isNumber c ≡ true
-found-words names k found c e = sym (ap isNumber (looked-up names k found c e .2))
-
--- what is made of an operand is a number exactly where the operand takes a word
-plain-words : (names : Names) (k : ℕ) (x : OlaAsmOperand) (c : OlaOperand) → plain names k x ≡ ok c → isNumber c ≡ takesWord x
-plain-words names k Empty c e = sym (ap isNumber (ok-same e))
-plain-words names k (ImmediateOperand v) c e = sym (ap isNumber (ok-same e))
-plain-words names k (RegisterOperand r) c e = sym (ap isNumber (ok-same e))
-plain-words names k (RegisterWithOffset r v) c e = sym (ap isNumber (ok-same e))
-plain-words names k (RegisterWithFactoredRegOffset r t v) c e = sym (ap isNumber (ok-same e))
-plain-words names k (SpecialReg t) c e = sym (ap isNumber (ok-same e))
-plain-words names k (Label start n) c e = found-words names k (holderOf names jmpKind start n) c e
-plain-words names k (Identifier start n) c e = found-words names k (holderOf names callKind start n) c e
-
-two-words : (m t : Bool) → m ≡ true → _≡_ {A = ℕ} (cond (m || t) 2 1) 2
-two-words m t e = rw e
-
--- mload and mstore have two words
-memory-words : (i : OlaAsmInstruction) (b : BinaryInstruction) → isMemoryRow (rowPlaces (i .opcode)) ≡ true → i .opcode ≡ b .opcode → emittedLength b ≡ wordCount i
-memory-words i b m e =
-    two-words (isMemory (b .opcode)) (isNumber (b .op1)) (ap isMemory (sym e) ∙ memory-rows (i .opcode) ∙ m)
-    ∙ sym (two-words (isMemoryRow (rowPlaces (i .opcode))) (takesWord (i .op1)) m)
-
--- an instruction has as many words as are counted for its row
-row-words : (names : Names) (k : ℕ) (i : OlaAsmInstruction) (b : BinaryInstruction) → Origin names k i b → emittedLength b ≡ wordCount i
-row-words names k i b (ordinary m r) =
-    ap₂ (λ (s t : Bool). cond (s || t) 2 1) (ap isMemory (sym (r .opcode)) ∙ memory-rows (i .opcode)) (plain-words names k (i .op1) (b .op1) (r .op1))
-row-words names k i b (load e a) = memory-words i b (ap isMemoryRow e) (anchored-counted (i .opcode) (i .op1) (i .dst) b a .2)
-row-words names k i b (store e a) = memory-words i b (ap isMemoryRow e) (anchored-counted (i .opcode) (i .op0) (i .op1) b a .2)
-
--- what takes a word counts as one
-takes-counted : (x : OlaAsmOperand) → cond (takesWord x) 2 1 ≤ 1 + counted x
-takes-counted Empty = omega arith
-takes-counted (ImmediateOperand v) = omega arith
-takes-counted (RegisterOperand r) = omega arith
-takes-counted (RegisterWithOffset r v) = omega arith
-takes-counted (RegisterWithFactoredRegOffset r t v) = omega arith
-takes-counted (SpecialReg t) = omega arith
-takes-counted (Label start n) = omega arith
-takes-counted (Identifier start n) = omega arith
-
--- an accepted row's words are at most its counted length
-row-within : (names : Names) (k : ℕ) (i : OlaAsmInstruction) (b : BinaryInstruction) → Origin names k i b → wordCount i ≤ countedLength i
-row-within names k i b (ordinary m r) =
-    let e : isMemoryRow (rowPlaces (i .opcode)) ≡ false = sym (memory-rows (i .opcode)) ∙ m in
-    let t = takes-counted (i .op1) in
-    rw e (omega arith)
-row-within names k i b (load e a) =
-    let f : counted (i .op1) ≡ 1 = anchored-counted (i .opcode) (i .op1) (i .dst) b a .0 in
-    let w = most-two (isMemoryRow (rowPlaces (i .opcode)) || takesWord (i .op1)) in omega arith
-row-within names k i b (store e a) =
-    let f : counted (i .op0) ≡ 1 = anchored-counted (i .opcode) (i .op0) (i .op1) b a .0 in
-    let w = most-two (isMemoryRow (rowPlaces (i .opcode)) || takesWord (i .op1)) in omega arith
-
--- ---- all rows
-
-pairs-words : (names : Names) (k : ℕ) (is : List OlaAsmInstruction) (bs : List BinaryInstruction) → Pairs names k is bs
-    → (total (map emittedLength bs) ≡ total (map wordCount is)) × (total (map wordCount is) ≤ total (map countedLength is))
-unfolding total
-pairs-words names k is bs no-pair = (refl, omega arith)
-pairs-words names k is bs (one-pair {i = i} {b = b} {is = js} {bs = cs} e p) =
-    let o = canonical-origin names k i b e in
-    let r = pairs-words names (suc k) js cs p in
-    let w = row-within names k i b o in
-    let x = r .1 in
-    (ap₂ _+_ (row-words names k i b o) (r .0), omega arith)
-
-module _ (s : List ℕ) (rows : List AsmRow) (is : List BinaryInstruction) (canonical : canonicalProgram s rows ≡ ok is) where
-  made-of : Pairs (namesOf s rows) 0 (instructions rows) is
-  made-of = canonical-pairs (namesOf s rows) 0 (instructions rows) is canonical
-
-  words-built : firstMisplaced 0 is ≡ none → length (programWords is) ≡ figuresOf rows .words
-  words-built placed = total-emitted is (canonical-form s rows is canonical placed) ∙ pairs-words (namesOf s rows) 0 (instructions rows) is made-of .0
-
-  rows-within : figuresOf rows .words ≤ figuresOf rows .counted
-  rows-within = pairs-words (namesOf s rows) 0 (instructions rows) is made-of .1
-
-  as-many : length is ≡ length (instructions rows)
-  as-many = sym (pairs-length (namesOf s rows) 0 (instructions rows) is made-of)
 
 -- ---- an accepted source
 
@@ -134,8 +43,8 @@ module _ (s prophets : List ℕ) (room : Room) (a : Accepted) (h : assembled s p
       let r = accepted-rows s prophets room a h in
       let c = of-rows s prophets room a h rows e in
       let l : a .labels ≡ length (labelRows 0 rows) = r .labels ∙ ap (λ (x : List AsmRow). length (labelRows 0 x)) (ok-same (sym (r .sorted) ∙ e)) in
-      let n = as-many s rows (a .program) c in
-      let w : length (a .words) ≡ figuresOf rows .words = ap length (r .words) ∙ words-built s rows (a .program) c (r .placed) in
+      let n = sym (rows-length s rows (a .program) c) in
+      let w : length (a .words) ≡ figuresOf rows .words = ap length (r .words) ∙ program-words s rows (a .program) c (r .placed) in
       sym (rw (l, whole-address (instructions rows) (length (a .program)) n, w) (rw n refl))
 
   pub room-built : (rows : List AsmRow) → sortedOf s ≡ ok rows
@@ -147,7 +56,7 @@ module _ (s prophets : List ℕ) (room : Room) (a : Accepted) (h : assembled s p
   unfolding roomOf
   words-within f e =
       let x = ok-bind (sortedOf s) _ f e in
-      subst (λ (f : RoomFigures). f .words ≤ f .counted) (ok-same (x .2)) (rows-within s (x .0) (a .program) (of-rows s prophets room a h (x .0) (x .1)))
+      subst (λ (f : RoomFigures). f .words ≤ f .counted) (ok-same (x .2)) (words-within-length s (x .0) (a .program) (of-rows s prophets room a h (x .0) (x .1)))
 
 -- ---- 13 where the words fit
 
@@ -176,7 +85,7 @@ words-enough s rows prophets room k = go (hostsOf s rows prophets) (canonicalPro
     last : (hs : List ℕ) (bs : List BinaryInstruction) → canonicalProgram s rows ≡ ok bs → (o : Option ℕ) → firstMisplaced 0 bs ≡ o
         → (refuseAt o 12 >> ends hs bs (ltb (room .words) (length (programWords bs)))) ≡ (refuseAt o 12 >> ends hs bs false)
     last hs bs f (some d) g = refl
-    last hs bs f none g = let w = words-built s rows bs f g in rw (le-ltb (room .words) (length (programWords bs)) (omega arith))
+    last hs bs f none g = let w = program-words s rows bs f g in rw (le-ltb (room .words) (length (programWords bs)) (omega arith))
 
     go : (x : Answer (List ℕ)) (y : Answer (List BinaryInstruction)) → canonicalProgram s rows ≡ y
         → (x >>= λ hs. y >>= λ bs. (refuseAt (firstMisplaced 0 bs) 12 >> ends hs bs (ltb (room .words) (length (programWords bs)))))

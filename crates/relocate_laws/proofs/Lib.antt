@@ -3,6 +3,7 @@ pub mod CutLaws
 pub mod LengthLaws
 pub mod ScopeLaws
 pub mod SortLaws
+pub mod StretchRowLaws
 pub mod StretchLaws
 pub mod WalkLaws
 pub mod KeptLaws
