@@ -1,5 +1,5 @@
 -- Inputs that separate likely misreadings of operand shapes, rows, counted lengths and surveys, by computation. Expected values: documents 01 and
--- 02 (Point 1, words), READINGS 1 to 5 and 11, and the patterns of assembler/src/operands.rs and assembler/src/asm.rs.
+-- 02 (Point 1, words; Point 2, labels), READINGS 1 to 5 and 11, and the patterns of assembler/src/operands.rs and assembler/src/asm.rs.
 use Prim.Native.Nat.{ℕ}
 use mathlib.Core.Path.{_≡_, refl}
 use mathlib.Core.List.{List, [], _∷_, map}
@@ -10,20 +10,18 @@ use Rattle.text.specs.Scan.{scan, all, parts}
 use Rattle.text.specs.Answer.{Answer, ok, refused, _>>=_}
 use Rattle.text_read.specs.Numerals.{digitValue, valueFrom, numeral}
 use Rattle.vm_opcodes.specs.Operations.{operations, firstOperation}
-use Rattle.vm_opcodes.specs.declared.OlaOpcode.the-variants.{ADD, MOV, CJMP, RET, MLOAD, MSTORE, NOT, JMP, SIGCHECK, EVENT}
+use Rattle.vm_opcodes.specs.declared.OlaOpcode.the-variants.{ADD, MOV, CJMP, RET, MLOAD, MSTORE, JMP, SIGCHECK, EVENT}
 use Rattle.vm_hardware.specs.Registers.{registers, registerOf, specialOf}
-use Rattle.vm_hardware.specs.declared.OlaRegister.the-variants.{R0, R1, R2, R3, R9}
+use Rattle.vm_hardware.specs.declared.OlaRegister.the-variants.{R1, R2, R3, R9}
 use Rattle.vm_hardware.specs.declared.OlaSpecialRegister.the-variants.{PC, PSP}
 use Rattle.vm_operands.specs.Numbers.{immediate, signed, numberOf}
-use Rattle.asm.specs.Parts.{Part, placed, filledParts, piecesFrom, linePieces, rowPieces, nameAt, sourcePieces}
+use Rattle.asm.specs.Parts.{placed, filledParts, piecesFrom, linePieces, rowPieces, nameAt, sourcePieces}
 use Rattle.asm.specs.Operands.{shapes, firstMatch, operandOf}
 use Rattle.asm.specs.Rows.{arranged, operandsOf, arrangedIf, isCallRow, isPairRow, labelRow, rowOf, readRows, instruction, instructions, countedLength}
 use Rattle.asm.specs.Survey.{wordCount, countRows, firstCall, mainStart, mainEnd, surveyFrom, surveyOf}
-use Rattle.asm.specs.declared.OlaAsmOperand.{OlaAsmOperand}
 use Rattle.asm.specs.declared.OlaAsmOperand.the-variants.{Empty, ImmediateOperand, RegisterOperand, RegisterWithOffset, RegisterWithFactoredRegOffset, SpecialReg, Label, Identifier}
 use Rattle.asm.specs.declared.OperandRead.{OperandRead}
 use Rattle.asm.specs.declared.OperandRead.the-variants.{Is, Unreadable}
-use Rattle.asm.specs.declared.AsmRow.{AsmRow}
 use Rattle.asm.specs.declared.AsmRow.the-variants.{Instruction, LabelCall, LabelJmp, LabelProphet}
 use Rattle.asm.specs.declared.RowRead.{RowRead}
 use Rattle.asm.specs.declared.RowRead.the-variants.{Is as IsRow, Unreadable as NoRow}
@@ -65,10 +63,27 @@ operandCases =
     ∷ (bytes "r2]", Unreadable)
     ∷ (bytes "[]", Unreadable)
     ∷ (bytes ".LBL1_2", Is (Label 7 7))
-    ∷ (bytes "xLBL0_12", Is (Label 7 8))
-    ∷ ((1 ∷ 76 ∷ 66 ∷ 76 ∷ 49 ∷ 95 ∷ 50 ∷ []), Is (Label 7 7))
+    ∷ (bytes ".LBL12_34", Is (Label 7 9))
+    ∷ (bytes ".ABC1_2", Unreadable)
+    -- 02, Point 2: "A letter or underscore before LBL is a name"
+    ∷ (bytes "xLBL0_12", Is (Identifier 7 8))
+    ∷ (bytes "_LBL1_2", Is (Identifier 7 7))
+    ∷ (bytes "rLBL1_2", Is (Identifier 7 7))
+    ∷ (bytes "LLBL1_2", Is (Identifier 7 7))
+    -- "Any other character than a dot makes the row unreadable"
+    ∷ (bytes "5LBL1_2", Unreadable)
+    ∷ (bytes "-LBL1_2", Unreadable)
+    ∷ (bytes "/LBL1_2", Unreadable)
+    ∷ (bytes "[LBL1_2", Unreadable)
+    ∷ (bytes ":LBL1_2", Unreadable)
+    ∷ (1 ∷ bytes "LBL1_2", Unreadable)
+    ∷ (127 ∷ bytes "LBL1_2", Unreadable)
+    -- as before
     ∷ (bytes "LBL1_2", Is (Identifier 7 6))
     ∷ (bytes "xxLBL1_2", Is (Identifier 7 8))
+    ∷ (bytes "xLBL1_", Is (Identifier 7 6))
+    ∷ (bytes "xLBL1_2_3", Is (Identifier 7 9))
+    ∷ (bytes "..LBL1_2", Unreadable)
     ∷ (bytes ".LBL1_", Unreadable)
     ∷ (bytes ".LBL_1", Unreadable)
     ∷ (bytes ".LBL1_2_3", Unreadable)
@@ -111,6 +126,10 @@ rowCases =
     ∷ (bytes "mov r1, r2", NoRow ∷ [])
     ∷ (bytes "mload r1 [r2, 5]", NoRow ∷ [])
     ∷ (bytes "call f.1", NoRow ∷ [])
+    -- the row, whatever else stands in it
+    ∷ (bytes "mload r1 xLBL1_2", instruction MLOAD Empty (Identifier 9 7) (RegisterOperand R1) ∷ [])
+    ∷ (bytes "mload r1 5LBL1_2", NoRow ∷ [])
+    ∷ (bytes "add 5LBL1_2 r1 .LBL1_2", NoRow ∷ [])
     ∷ (bytes "f:", IsRow (LabelCall 0 1) ∷ [])
     ∷ (bytes "\n main: ; x", IsRow (LabelCall 2 4) ∷ [])
     ∷ (bytes "f.1:", IsRow (LabelCall 0 3) ∷ [])
@@ -120,6 +139,7 @@ rowCases =
     ∷ (bytes "pc:", IsRow (LabelCall 0 2) ∷ [])
     ∷ (bytes "ret:", IsRow (LabelCall 0 3) ∷ [])
     ∷ (bytes "xLBL1_1:", IsRow (LabelCall 0 7) ∷ [])
+    ∷ (bytes "5LBL1_2:", IsRow (LabelCall 0 7) ∷ [])
     ∷ (bytes ".LBL1_2:", IsRow (LabelJmp 0 7) ∷ [])
     ∷ (bytes ".PROPHET1_2:", IsRow (LabelProphet 0 11) ∷ [])
     ∷ (bytes ".LBL1_2", NoRow ∷ [])

@@ -115,9 +115,9 @@ register = record { fits = λ x. foundRegister (registerOf x); means = λ q. ofR
 abbrev pub number : Shape
 number = record { fits = isSourceNumber; means = λ q. withNumber ImmediateOperand (sourceNumber (q .text)) }
 
--- "any one character then `LBL` digits `_` digits (a label)"
+-- a dot, "then `LBL` digits `_` digits (a label)"; 02, Point 2: "A label operand now needs a dot as its first character"
 abbrev pub label : Shape
-label = record { fits = λ x. same (slice 1 4 x) (bytes "LBL") && isPair (drop 4 x); means = λ q. Is (Label (q .start) (length (q .text))) }
+label = record { fits = λ x. byteIs x 0 46 && same (slice 1 4 x) (bytes "LBL") && isPair (drop 4 x); means = λ q. Is (Label (q .start) (length (q .text))) }
 
 abbrev pub ofSpecial : SpecialFound → OperandRead
 ofSpecial (IsSpecial s) = Is (SpecialReg s)

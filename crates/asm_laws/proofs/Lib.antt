@@ -1,6 +1,7 @@
 pub mod LengthLaws
 pub mod ShapeLaws
 pub mod NumberLaws
+pub mod LabelLaws
 pub mod PieceLaws
 pub mod JoinLaws
 pub mod StepLaws

@@ -2,10 +2,10 @@
 use Prim.Native.Nat.{ℕ, _-_, _<_}
 use mathlib.Core.Path.{_≡_, refl, sym, ap, _∙_}
 use mathlib.Core.List.{List}
-use mathlib.Core.Bool.{Bool, true, false, not}
+use mathlib.Core.Bool.{Bool, true, false, not, and-false}
 use native.Mathlib.Omega.{arith}
-use borrow.Author.Tests.{not-true, not-false}
-use lib.ListN.{length, take, drop, length-drop}
+use borrow.Author.Tests.{not-true, not-false, eq-eqb, ne-eqb}
+use lib.ListN.{length, take, drop, getD, length-drop}
 use lib.Seq.{slice, take-all}
 use Rattle.text.specs.Bytes.{bytes, same}
 use Rattle.text.proofs.Laws.{part-from, told-not-true, told-not-false, part-slice}
@@ -18,7 +18,7 @@ use Rattle.vm_hardware.specs.declared.RegisterFound.the-variants.{Is as IsRegis
 use Rattle.vm_hardware.specs.declared.SpecialFound.{SpecialFound}
 use Rattle.vm_hardware.specs.declared.SpecialFound.the-variants.{Is as IsSpecial, Nothing as NoSpecial}
 use Rattle.vm_operands.specs.declared.ImmediateValue.{ImmediateValue}
-use Rattle.asm.specs.Operands.{isPair, isName, register, number, label, special, name}
+use Rattle.asm.specs.Operands.{byteIs, isPair, isName, register, number, label, special, name}
 use Rattle.asm.specs.declared.OlaAsmOperand.the-variants.{ImmediateOperand, RegisterOperand, SpecialReg, Label, Identifier}
 use Rattle.asm.specs.declared.OperandRead.the-variants.{Is, Unreadable}
 use Rattle.asm_shapes.specs.Shapes.{sourceNumberOf}
@@ -64,21 +64,25 @@ module _ (x : List ℕ) (n : ℕ) where
   pub label-short : length x < 4 → Other ≡ tried label (placed n x)
   label-short h =
       let w : same (slice 1 4 x) (bytes "LBL") ≡ false = same-off (slice 1 4 x) (bytes "LBL") (λ q. omega (arith, q, length-drop 1 (take 4 x), ap length (take-all 4 x (omega arith)))) in
-      tried-other label (placed n x) (rw w)
+      tried-other label (placed n x) (rw (w, and-false (byteIs x 0 46)))
 
-  module _ (t : Bool) (e : t ≡ same (take 3 (drop 1 x)) (bytes "LBL")) where
+  -- without the dot none
+  pub label-undotted : (getD x 0 0 ≡ 46 → ⊥) → Other ≡ tried label (placed n x)
+  label-undotted h = tried-other label (placed n x) (rw (ne-eqb _ _ h))
+
+  module _ (d : getD x 0 0 ≡ 46) (t : Bool) (e : t ≡ same (take 3 (drop 1 x)) (bytes "LBL")) where
     -- what was compared are the letters after the first character
     letters : t ≡ same (slice 1 4 x) (bytes "LBL")
     letters = e ∙ ap (λ (l : List ℕ). same l (bytes "LBL")) (part-slice 1 4 x)
 
     -- other letters, no label
     pub label-other : not t ≡ true → Other ≡ tried label (placed n x)
-    label-other h = tried-other label (placed n x) (rw (told-not-true t _ letters h))
+    label-other h = tried-other label (placed n x) (rw (eq-eqb _ _ d, told-not-true t _ letters h))
 
     module _ (u : Bool) (f : u ≡ isPair (take (length x - 4) (drop 4 x))) (h : not t ≡ false) where
       -- after the letters a pair decides
       label-by : label .fits x ≡ u
-      label-by = rw (told-not-false t _ letters h) (sym (f ∙ ap isPair (part-from 4 x)))
+      label-by = rw (eq-eqb _ _ d, told-not-false t _ letters h) (sym (f ∙ ap isPair (part-from 4 x)))
 
       -- no pair, no label
       pub label-bare : not u ≡ true → Other ≡ tried label (placed n x)
@@ -88,7 +92,7 @@ module _ (x : List ℕ) (n : ℕ) where
       pub label-fits : not u ≡ false → Fits (Is (Label n (length x))) ≡ tried label (placed n x)
       label-fits g = tried-fits label (placed n x) _ (label-by ∙ not-false u g) refl
 
-pub ruleset label-laws = (label-short, label-other, label-bare, label-fits)
+pub ruleset label-laws = (label-short, label-undotted, label-other, label-bare, label-fits)
 
 -- `pc` or `psp`
 module _ (x : List ℕ) (r : SpecialFound) (e : r ≡ specialOf x) where

@@ -158,11 +158,14 @@ fn try_number(piece: &[u8]) -> Tried
     }
 }
 
-// Any one character, `LBL`, digits, `_`, digits.
+// A dot, `LBL`, digits, `_`, digits.
 fn try_label(piece: &[u8], start: usize) -> Tried
     ensures { λ r. ⌜ r ≡ tried label (record { start = start; text = now (piece .entry) }) ⌝ }
 {
     if piece.len() < 4 {
+        return Tried::Other;
+    }
+    if piece[0] != b'.' {
         return Tried::Other;
     }
     if !text::same_bytes(&piece[1..4], &LBL) {

@@ -1,9 +1,9 @@
 -- Inputs that separate likely misreadings of resolution, canonical instructions, refusals 10 to 13 and what is left in the buffers, by
--- computation. Expected values: document 01 and READINGS 2, 3 and 9 to 12.
-use Prim.Native.Nat.{ℕ, _^_}
+-- computation. Expected values: documents 01 and 02 (Point 2) and READINGS 2, 3 and 9 to 12.
+use Prim.Native.Nat.{ℕ}
 use mathlib.Core.Path.{_≡_, refl}
-use mathlib.Core.List.{List, [], _∷_, map}
-use mathlib.Core.Bool.{Bool, true, false}
+use mathlib.Core.List.{List, [], _∷_, _++_, map}
+use mathlib.Core.Bool.{true, false}
 use Rattle.text.specs.Bytes.{bytes, isSpace, isDigit, isLetter, isWord, same}
 use Rattle.text.specs.Lists.{total}
 use Rattle.text.specs.Scan.{scan, all, parts}
@@ -45,13 +45,25 @@ wordCases =
     ∷ (bytes "main:\n.LBL1_1:\njmp .LBL1_1\n.LBL1_1:", ok (0x4000000004000000 ∷ 0 ∷ []))
     -- last in sorted order, not as written
     ∷ (bytes "f:\nret\n.LBL1_1:\nend\nmain:\n.LBL1_1:\njmp .LBL1_1", ok (0x4000000004000000 ∷ 3 ∷ 0x800000 ∷ 0x100000 ∷ []))
-    -- names look at call rows only, labels at `.LBL` rows only
+    -- a name looks at call rows
     ∷ (bytes "main:\njmp f\nf:\nend", ok (0x4000000004000000 ∷ 2 ∷ 0x100000 ∷ []))
-    ∷ (bytes "main:\njmp xLBL1_1\nxLBL1_1:\nend", refused 10 0)
     -- READING 3: the whole piece is compared
     ∷ (bytes "main:\n.LBL1_2:\njmp .LBL01_2", refused 10 0)
+    -- 02, Point 2: "an operand that was refused with 10 may resolve", and what is asked later is reached
+    ∷ (bytes "main:\ncall xLBL1_2\nxLBL1_2:\nret", ok (0x4000000001000000 ∷ 2 ∷ 0x800000 ∷ []))
+    ∷ (bytes "main:\ncall _LBL1_2\n_LBL1_2:\nret", ok (0x4000000001000000 ∷ 2 ∷ 0x800000 ∷ []))
+    ∷ (bytes "main:\ncall rLBL1_2\nrLBL1_2:\nret", ok (0x4000000001000000 ∷ 2 ∷ 0x800000 ∷ []))
     ∷ (bytes "main:\n.LBL1_2:\njmp xLBL1_2", refused 10 0)
-    ∷ ((109 ∷ 97 ∷ 105 ∷ 110 ∷ 58 ∷ 10 ∷ 106 ∷ 109 ∷ 112 ∷ 32 ∷ 1 ∷ 76 ∷ 66 ∷ 76 ∷ 49 ∷ 95 ∷ 50 ∷ []), refused 10 0)
+    ∷ (bytes "main:\nmov xLBL1_2 r1\nxLBL1_2:\nret", refused 12 0)
+    ∷ (bytes "main:\ncall xLBL1_2\njmp g\nxLBL1_2:\nret", refused 10 1)
+    ∷ (bytes "main:\nmload r1 xLBL1_2", refused 11 0)
+    -- "3 in place of the later refusal": of 11, 10, 5, 6 and of 3 in a later row
+    ∷ (bytes "main:\nmload r1 5LBL1_2", refused 3 1)
+    ∷ (bytes "main:\ncall 5LBL1_2\n5LBL1_2:\nret", refused 3 1)
+    ∷ (bytes "main:\njmp " ++ 1 ∷ bytes "LBL1_2", refused 3 1)
+    ∷ (bytes "f:\njmp 5LBL1_2", refused 3 1)
+    ∷ (bytes "main:\nmain:\njmp 5LBL1_2", refused 3 2)
+    ∷ (bytes "main:\njmp 5LBL1_2\nbad", refused 3 1)
     -- READING 9: names in op0 and dst are looked up before 12 is asked
     ∷ (bytes "main:\nmov g r1", refused 10 0)
     ∷ (bytes "main:\nmov main r1", refused 12 0)

@@ -1,9 +1,9 @@
 -- Inputs that separate likely misreadings of scopes, label tables, prophets, refusals 1 to 9 and the room that a source takes, by computation.
 -- Expected values: document 01, READINGS 4 to 8, and document 02's Point 1.
 use Prim.Native.Nat.{ℕ, _<_}
-use mathlib.Core.Path.{_≡_, refl, sym, ap, _∙_}
+use mathlib.Core.Path.{_≡_, refl}
 use mathlib.Core.List.{List, [], _∷_, map}
-use mathlib.Core.Bool.{Bool, true, false, cond}
+use mathlib.Core.Bool.{Bool, true, false}
 use borrow.Author.Tests.{lt-ltb}
 use lib.ListN.{length}
 use Rattle.text.specs.Bytes.{bytes, isSpace, isDigit, isLetter, isWord, same}
@@ -17,7 +17,6 @@ use Rattle.vm_operands.specs.Numbers.{signed, numberOf}
 use Rattle.asm.specs.Parts.{placed, filledParts, piecesFrom, linePieces, rowPieces, nameAt}
 use Rattle.asm.specs.Operands.{shapes, firstMatch}
 use Rattle.asm.specs.Rows.{arranged, operandsOf, arrangedIf, isCallRow, isPairRow, labelRow, rowOf, instructions, readRows}
-use Rattle.asm.specs.declared.AsmRow.{AsmRow}
 use Rattle.relocate.specs.Scopes.{cutAtCalls, scopesThat, rowsOfScopes}
 use Rattle.relocate.specs.Labels.{labelRows, holder, tableOf}
 use Rattle.relocate.specs.Prophets.{withoutLastEmpty, labelsAfterHead, listedLabels, hostsFrom, isIn, Kept, keptFrom, keptCount}
@@ -59,7 +58,7 @@ tableCases =
     ∷ (1, bytes "main:\nend\nf:", refused 7 0)
     ∷ (2, bytes "main:\nend\nf:", ok (entry 0 true 0 4 0 ∷ entry 0 false 10 1 0 ∷ []))
     -- rows that no operand can reach have entries
-    ∷ (9, bytes "main:\nr1:\n12:\nf.1:\nxLBL1_1:\nend", ok (entry 0 true 0 4 0 ∷ entry 0 true 6 2 0 ∷ entry 0 true 10 2 0 ∷ entry 0 true 14 3 0 ∷ entry 0 true 19 7 0 ∷ []))
+    ∷ (9, bytes "main:\nr1:\n12:\nf.1:\n5LBL1_1:\nend", ok (entry 0 true 0 4 0 ∷ entry 0 true 6 2 0 ∷ entry 0 true 10 2 0 ∷ entry 0 true 14 3 0 ∷ entry 0 true 19 7 0 ∷ []))
     -- a label marks the next instruction across scopes, by its counted address
     ∷ (9, bytes "main:\nmov r1 [r2]\n.LBL1_1:\nf:\nret", ok (entry 0 true 0 4 0 ∷ entry 1 true 18 7 2 ∷ entry 0 true 27 1 2 ∷ []))
     -- a prophet's entry has its host: the instruction before, 0 if none
@@ -127,6 +126,7 @@ roomCases =
     ∷ (bytes "main:\nmov 5 r1", takes 1 1 1 1)
     -- nothing is looked up
     ∷ (bytes "main:\njmp nowhere", takes 1 1 2 2)
+    ∷ (bytes "main:\ncall xLBL1_2", takes 1 1 2 2)
     -- every label row counts, one that marks nothing and one whose name came before too
     ∷ (bytes "main:", takes 1 0 0 0)
     ∷ (bytes "main:\nf:\nf:\nend", takes 3 1 1 1)
@@ -136,6 +136,8 @@ roomCases =
     -- "each source that passes refusals 1 to 6"
     ∷ ((59 ∷ 128 ∷ []), refused 2 1)
     ∷ (bytes "main:\nfoo", refused 3 1)
+    -- 02, Point 2: "3 in place ... of Point 1's figures"
+    ∷ (bytes "main:\ncall 5LBL1_2", refused 3 1)
     ∷ ([], refused 4 0)
     ∷ (bytes "f:\nret", refused 5 0)
     ∷ (bytes "main:\nmain:", refused 6 0)

@@ -1,4 +1,4 @@
-// Compares what the port answers with recorded answers of the Rust, and with answers written by hand from document 01.
+// Compares what the port answers with recorded answers of the Rust, and with answers written by hand from documents 01 and 02.
 // Each argument names a file of cases, one a line; tests/oracle/record/main.rs says at its top what the fields are. In a field of text \*N; and a
 // byte stand for N of that byte. A line that begins with # is a comment. Prints for each file its name, each line that differs, how many cases it
 // has and how many differ, how many are accepted, and how many cases of each refusal agree. A line that cannot be read differs.

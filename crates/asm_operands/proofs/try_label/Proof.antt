@@ -7,6 +7,12 @@ use Rattle.asm_operands.proofs.try_label.Tie as tie
 returns : tie.Need-returns
 returns c = search label-laws
 
+shared-slice-read-if2 : tie.Need-shared-slice-read-if2
+shared-slice-read-if2 c = search needs
+
+returns-2 : tie.Need-returns-2
+returns-2 c = search label-laws
+
 sub-same-bytes : tie.Need-sub-same-bytes
 sub-same-bytes c = search needs
 
@@ -22,8 +28,8 @@ slice-aggregate-same-bytes c = search needs
 same-bytes-requires : tie.Need-same-bytes-requires
 same-bytes-requires c κs = search needs
 
-returns-2 : tie.Need-returns-2
-returns-2 c = search label-laws
+returns-3 : tie.Need-returns-3
+returns-3 c = search label-laws
 
 sub-is-pair : tie.Need-sub-is-pair
 sub-is-pair c = search needs
@@ -37,26 +43,28 @@ part-is-pair-end c = search needs
 is-pair-requires : tie.Need-is-pair-requires
 is-pair-requires c κs = search needs
 
-returns-3 : tie.Need-returns-3
-returns-3 c = search label-laws
-
 returns-4 : tie.Need-returns-4
 returns-4 c = search label-laws
+
+returns-5 : tie.Need-returns-5
+returns-5 c = search label-laws
 
 pub try-label-spec : {M : Type 1} → statement M
 try-label-spec =
     tie.close
     (tie.spec
     returns
+    shared-slice-read-if2
+    returns-2
     sub-same-bytes
     part-same-bytes-start
     part-same-bytes-end
     slice-aggregate-same-bytes
     same-bytes-requires
-    returns-2
+    returns-3
     sub-is-pair
     part-is-pair-start
     part-is-pair-end
     is-pair-requires
-    returns-3
-    returns-4)
+    returns-4
+    returns-5)

@@ -1,5 +1,5 @@
 //! One case on both sides: the Rust's answer, that of documents 01 and 02 where it departs or does not tell, and the port's.
-use crate::paper::{self, ORDER};
+use crate::paper::{self, Respelt, ORDER};
 use crate::port::{self, Assembly, Encoding, Figures, Label, Lent, Name, NumberedInstruction, NumberedPlace, Opened, Room, Step, Written};
 use oracle::{Answer, Assembled, Instruction, Place};
 use std::borrow::Cow;
@@ -38,12 +38,35 @@ pub struct Rooms {
     pub above: u64,
 }
 
+/// How many sources the Rust was asked about respelt: with names alone, how many of these it accepted, with unreadable operands alone, with both.
+#[derive(Clone, Copy, Default)]
+pub struct Respellings {
+    pub names: u64,
+    pub accepted: u64,
+    pub unreadable: u64,
+    pub both: u64,
+}
+
+impl Respellings {
+    fn tally(&mut self, respelt: &Respelt, number: u64) {
+        match (respelt.names, respelt.unreadable) {
+            (_, 0) => {
+                self.names += 1;
+                self.accepted += u64::from(number == 0);
+            }
+            (0, _) => self.unreadable += 1,
+            _ => self.both += 1,
+        }
+    }
+}
+
 pub struct Checker {
     /// Only the Rust runs.
     pub dry: bool,
     /// Of one in so many of the sources that it accepts the Rust is asked for the counted length.
     every: u64,
     pub rooms: Rooms,
+    pub respellings: Respellings,
     /// How often each answer came: what was asked, and the refusal, 0 for acceptance.
     pub answers: BTreeMap<(&'static str, u64), u64>,
     /// Whether the Rust accepted the case.
@@ -208,7 +231,7 @@ fn counted(source: &str) -> Result<Option<u64>, String> {
 
 impl Checker {
     pub fn new(dry: bool, every: u64) -> Checker {
-        Checker { dry, every, rooms: Rooms::default(), answers: BTreeMap::new(), accepted: false }
+        Checker { dry, every, rooms: Rooms::default(), respellings: Respellings::default(), answers: BTreeMap::new(), accepted: false }
     }
 
     fn tally(&mut self, what: &'static str, number: u64) {
@@ -255,6 +278,8 @@ impl Checker {
         Ok(())
     }
 
+    /// What the Rust, and documents 01 and 02 beside it, say of a source. Where an operand looks like a label and has no dot they are asked of the source
+    /// respelt, which has the same length: every place in it is the source's.
     fn told(&mut self, source: &[u8], prophets: &[u8]) -> Result<Told, String> {
         if source.len() > paper::SOURCE_LIMIT {
             return Ok(Told::refused(1, 0));
@@ -262,7 +287,9 @@ impl Checker {
         if let Some(at) = source.iter().position(|byte| *byte > 127) {
             return Ok(Told::refused(2, at as u64));
         }
-        let text = std::str::from_utf8(source).unwrap();
+        let source = std::str::from_utf8(source).unwrap();
+        let respelt = paper::respelt(source);
+        let text = respelt.as_ref().map_or(source, |respelt| &respelt.text);
         let list = paper::listed(prophets);
         let names: Vec<Cow<str>> = list.iter().flatten().map(|name| String::from_utf8_lossy(name)).collect();
         let names: Vec<&str> = names.iter().map(|name| &**name).collect();
@@ -272,6 +299,9 @@ impl Checker {
             rust = oracle::assemble(&without_panic(text), &names);
         }
         self.tally("assemble", refusal(&rust));
+        if let Some(respelt) = &respelt {
+            self.respellings.tally(respelt, refusal(&rust));
+        }
         if let Answer::Refused(3, detail) = rust {
             return Ok(Told::refused(3, detail));
         }

@@ -46,9 +46,18 @@ const PLAIN: Manner = Manner { odd: false, mistakes: true };
 const ODD: Manner = Manner { odd: true, mistakes: true };
 const CLEAN: Manner = Manner { odd: false, mistakes: false };
 
-const CALLS: [&str; 14] = ["f", "g", "f", "h_2", "_x", "F", "__a1", "r1", "r10", "pc", "12", "f.1", "main.1", "xLBL1_1"];
+const CALLS: [&str; 14] = ["f", "g", "f", "h_2", "_x", "F", "__a1", "r1", "r10", "pc", "12", "f.1", "main.1", "5LBL1_1"];
 const LABELS: [&str; 6] = [".LBL0_0", ".LBL0_1", ".LBL1_0", ".LBL01_0", ".LBL12_345", ".LBL0_00"];
 const PROPHETS: [&str; 4] = [".PROPHET0_0", ".PROPHET0_1", ".PROPHET1_0", ".PROPHET00_0"];
+/// Names that look like labels, and such that nearly do.
+const LIKE_LABELS: [&str; 12] = [
+    "xLBL1_1", "rLBL1_1", "LLBL1_1", "_LBL1_1", "xLBL1_2", "xLBL01_1", "xLBL0_0", "LBL1_1", "xLBL1_", "xLBL1_1_3", "xxLBL1_1", "xLBL_1",
+];
+/// Operands that are unreadable: what looks like a label with another first character, and two that nearly do. With a colon some of them are call rows.
+const UNREADABLE: [&str; 13] = [
+    "5LBL1_1", "0LBL0_0", "+LBL1_1", "-LBL1_1", "[LBL1_1", ":LBL1_1", "\x01LBL1_1", "\x7fLBL1_1", "$LBL1_1", ",LBL1_1", "]LBL1_1", "..LBL1_1",
+    ".LBL1_",
+];
 
 fn register(r: &mut Random) -> String {
     format!("r{}", r.below(10))
@@ -101,8 +110,10 @@ fn value(r: &mut Random, calls: &[String], labels: &[String], manner: Manner) ->
         12..=14 if !labels.is_empty() => labels[r.below(labels.len())].clone(),
         15..=17 if !calls.is_empty() => calls[r.below(calls.len())].clone(),
         18 if r.percent(30) => bracket(r, manner.odd),
+        18 if manner.mistakes && r.percent(4) => r.one(&LIKE_LABELS).to_string(),
+        18 if manner.mistakes && r.percent(6) => r.one(&UNREADABLE).to_string(),
         19 if r.percent(50) => r.one(&["pc", "psp"]).to_string(),
-        19 if manner.mistakes && r.percent(10) => r.one(&["nowhere", ".LBL9_9", "Pc", "_", "$", "_9", "r11", "xLBL0_0"]).to_string(),
+        19 if manner.mistakes && r.percent(10) => r.one(&["nowhere", ".LBL9_9", "Pc", "_", "$", "_9", "r11"]).to_string(),
         _ => register(r),
     }
 }
@@ -146,7 +157,12 @@ fn program(r: &mut Random, most_scopes: usize, most_rows: usize, manner: Manner)
         if n == others + 1 {
             scope.push(vec!["main:".to_string()]);
         } else if n < others {
-            let name = if r.percent(70) { r.one(&CALLS[..7]) } else { r.one(&CALLS) };
+            let name = match r.below(10) {
+                0..=5 => r.one(&CALLS[..7]),
+                6 | 7 => r.one(&LIKE_LABELS),
+                8 if manner.mistakes && r.percent(5) => r.one(&UNREADABLE),
+                _ => r.one(&CALLS),
+            };
             calls.push(name.to_string());
             scope.push(vec![format!("{name}:")]);
         }
@@ -169,7 +185,7 @@ fn program(r: &mut Random, most_scopes: usize, most_rows: usize, manner: Manner)
     }
     let first = if scopes.len() > others + 1 { Some(scopes.remove(others)) } else { None };
     r.shuffle(&mut scopes);
-    let named = |name: &String| !["r1", "pc", "12", "f.1", "main.1", "xLBL1_1"].contains(&&**name);
+    let named = |name: &String| !["r1", "pc", "12", "f.1", "main.1"].contains(&&**name) && !UNREADABLE.contains(&&**name);
     let calls: Vec<String> = calls.into_iter().filter(|name| named(name) || manner.mistakes && r.percent(2)).collect();
     let mut rows: Vec<Row> = first.into_iter().chain(scopes).flatten().collect();
     if !manner.mistakes || r.percent(70) {
@@ -225,10 +241,14 @@ fn scopes(r: &mut Random) -> Case {
     Case::Source { source: plainly(&rows), prophets: list(r, &prophets) }
 }
 
-/// A source of many names, so that some of them fall into one bucket of the port's chains.
+/// A source of many names, so that some of them fall into one bucket of the port's chains. One in four looks like a label.
 fn many_names(r: &mut Random) -> Case {
     let letter = |r: &mut Random| (b'a' + r.below(26) as u8) as char;
-    let calls: Vec<String> = (0..1 + r.below(60)).map(|_| format!("{}{}", letter(r), letter(r))).collect();
+    let name = |r: &mut Random| match r.below(4) {
+        0 => format!("{}LBL{}_{}", r.one(&["x", "r", "L", "_"]), r.below(10), r.below(10)),
+        _ => format!("{}{}", letter(r), letter(r)),
+    };
+    let calls: Vec<String> = (0..1 + r.below(60)).map(|_| name(r)).collect();
     let labels: Vec<String> = (0..1 + r.below(60)).map(|_| format!(".LBL{}_{}", r.below(100), r.below(100))).collect();
     let prophets: Vec<String> = (0..r.below(8)).map(|_| format!(".PROPHET{}_{}", r.below(100), r.below(100))).collect();
     let mut rows: Vec<Row> = calls.iter().chain(&labels).chain(&prophets).map(|name| vec![format!("{name}:")]).collect();
@@ -282,10 +302,11 @@ fn any_places(r: &mut Random) -> Case {
         2 | 3 => number(r, false),
         4 => bracket(r, false),
         5 => r.one(&["pc", "psp"]).to_string(),
-        6 => r.one(&["main", "f", "nowhere", "r10"]).to_string(),
-        _ => r.one(&[".LBL0_0", ".LBL9_9", "[LBL0_0", "xLBL0_0"]).to_string(),
+        6 => r.one(&["main", "f", "nowhere", "r10", "xLBL0_0", "_LBL0_0"]).to_string(),
+        _ if r.percent(20) => r.one(&UNREADABLE).to_string(),
+        _ => r.one(&[".LBL0_0", ".LBL9_9"]).to_string(),
     };
-    let mut rows: Vec<Row> = ["main:", ".LBL0_0:", "f:"].map(|label| vec![label.to_string()]).to_vec();
+    let mut rows: Vec<Row> = ["main:", ".LBL0_0:", "f:", "xLBL0_0:"].map(|label| vec![label.to_string()]).to_vec();
     for _ in 0..1 + r.below(3) {
         let mnemonic = if r.below(3) == 0 { r.one(&["mload", "mstore"]) } else { r.one(&MNEMONICS) };
         let count = match mnemonic {
@@ -360,7 +381,7 @@ fn soup(r: &mut Random) -> Case {
     let mut source = if r.percent(80) { b"main:\n".to_vec() } else { vec![] };
     let pieces = [
         "main:", "\n", "\n", "\n", " ", " ", "mov", "r1", "r2", ".LBL", "LBL", "0", "1_2", "_", ":", ";", "[", ",", "]", "+", "-", "ret", "end",
-        "pc", "psp", "f", ".PROPHET", "\t", "\r", "jmp", "mload", ".", "r", "add",
+        "pc", "psp", "f", ".PROPHET", "\t", "\r", "jmp", "mload", ".", "r", "add", "call xLBL1_2", "xLBL1_2:", "jmp 5LBL1_2",
     ];
     for _ in 0..r.below(14) {
         match r.below(3) {

@@ -10,8 +10,9 @@ pub struct List {
     pub at: fn(usize) -> Case,
 }
 
-pub const LISTS: [List; 10] = [
+pub const LISTS: [List; 11] = [
     List { name: "every operation, every shape in every place", len: 27 * OPERANDS, at: operation },
+    List { name: "every byte before LBL1_2", len: 128 * PLACES.len() * 4, at: before_label },
     List { name: "every short operand", len: strings(OPERAND_BYTES.len(), 4), at: short_operand },
     List { name: "every short row", len: strings(ROW_BYTES.len(), 4), at: short_row },
     List { name: "every byte edit of a source", len: edits(&SOURCES), at: source_edit },
@@ -31,7 +32,7 @@ pub const MNEMONICS: [&str; 27] = [
 // ---- operations and shapes
 
 const SHAPES: [&str; 16] =
-    ["r1", "r9", "5", "-1", "[r2]", "[r3,4]", "[r5,r6]", "[r7,r8,9]", "pc", "psp", "main", "g", ".LBL1_1", ".LBL2_2", "xLBL3_3", "f.1"];
+    ["r1", "r9", "5", "-1", "[r2]", "[r3,4]", "[r5,r6]", "[r7,r8,9]", "pc", "psp", "main", "g", ".LBL1_1", ".LBL2_2", "xLBL3_3", "5LBL3_3"];
 const S: usize = SHAPES.len();
 /// None, one, two, three operands, and four alike.
 const OPERANDS: usize = 1 + S + S * S + S * S * S + S;
@@ -53,6 +54,30 @@ fn operation(n: usize) -> Case {
 
 fn source(source: Vec<u8>) -> Case {
     Case::Source { source, prophets: vec![] }
+}
+
+// ---- first characters
+
+/// What stands before an operand and after it.
+const PLACES: [(&str, &str); 8] = [
+    ("jmp ", ""),
+    ("call ", ""),
+    ("mov r1 ", ""),
+    ("mov ", " r1"),
+    ("cjmp ", " r1"),
+    ("mload r1 ", ""),
+    ("mload ", " [r2]"),
+    ("mstore ", " r1"),
+];
+
+/// Every byte before `LBL1_2` as an operand, with and without a call row of that spelling ahead, with and without a `.LBL1_2:` row.
+fn before_label(n: usize) -> Case {
+    let (byte, place, rows) = ((n % 128) as u8, n / 128 % PLACES.len(), n / 128 / PLACES.len());
+    let spelt = format!("{}LBL1_2", byte as char);
+    let (before, after) = PLACES[place];
+    let call = if rows % 2 == 1 { format!("{spelt}:\n") } else { String::new() };
+    let label = if rows / 2 == 1 { ".LBL1_2:\n" } else { "" };
+    source(format!("main:\n{call}{label}{before}{spelt}{after}\nend").into_bytes())
 }
 
 // ---- short texts
@@ -99,13 +124,14 @@ fn short_second(n: usize) -> Case {
 
 // ---- edits
 
-const SOURCES: [&str; 6] = [
+const SOURCES: [&str; 7] = [
     "f:\nret\nmain:\nmov r1 -1\ncall f\n.PROPHET0_0:\nend",
     "main:\n.LBL0_1: ; here\n  mload r1 [r2,3]\n\tmstore [r4,r5,6] r7\r\ncjmp r0 .LBL0_1\n",
     "add r1 r2 18446744069414584320\n_g:\nmul r3 r4 _g\nmain:\njmp _g",
     "main:\nnot r1 [r2]\nf.1:\nsstore r1 psp\n.LBL12_34:\njmp .LBL12_34",
     "main:\nnot r1 -170141183460469231731687303715884105728\nmov r1 18446744069414584320",
     "main:\nmload r1 [r2]\nmload r1 [r2,r3]\nsigcheck r1 pc\n",
+    "main:\ncall xLBL1_2\nxLBL1_2:\n_LBL3_4:\njmp _LBL3_4",
 ];
 const PROPHETS: [&str; 1] = ["label\n.PROPHET0_0\n.PROPHET0_0\n.PROPHET1_0"];
 const LISTED: &str = "main:\nret\n.PROPHET0_0:\njmp 1\n.PROPHET1_0:\nend\n.PROPHET2_0:";

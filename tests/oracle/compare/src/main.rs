@@ -1,12 +1,13 @@
 //! Runs the port beside the Rust and compares every result: acceptance, refusals and details, label addresses, hosts and prophets kept, words and bytecode,
 //! instructions read, listing rows, encodings, the room of a source, and what is left in every lent buffer, past its end too. Where document 01 departs from
-//! the Rust, or 01 or 02 says what the Rust does not tell, paper.rs takes the Rust's place.
+//! the Rust, or 01 or 02 says what the Rust does not tell, paper.rs takes the Rust's place. A source with an operand that looks like a label and has no dot is
+//! outside the comparison as it stands, by document 02's Point 2: the port gets it as it is, the Rust respelt, and such sources are counted apart.
 //!   compare [COUNT] [SEED]      default 20000 and 1
 //! First the cases of the papers and, from the file that MANUAL names, the manual's examples, then the whole lists (of a small count every so-many-th of them,
 //! at most half of the count), then random cases.
 //! With DRY=1 only the Rust runs. With TRACE=1 each case is printed before it runs.
-//! Exit status: 0 no difference; 1 a difference, a function of the port that was never called, a source whose room was not asked for, or the Rust never asked
-//! for a counted length.
+//! Exit status: 0 no difference; 1 a difference, a function of the port that was never called, a source whose room was not asked for, the Rust never asked
+//! for a counted length, or no respelt source with a name, with an unreadable operand, or accepted.
 mod check;
 mod generate;
 mod lists;
@@ -17,7 +18,7 @@ mod port;
 mod random;
 mod shrink;
 
-use check::{Case, Checker, Expected, Rooms};
+use check::{Case, Checker, Expected, Respellings, Rooms};
 use generate::{GENERATORS, LARGE_EVERY};
 use random::Random;
 use std::panic::{catch_unwind, AssertUnwindSafe};
@@ -149,6 +150,9 @@ impl Run {
         println!("The room of {sources} source cases, and what told it:");
         println!("  refusals 1 to 6: {}, the Rust: {by_rust}, the papers alone: {by_paper}", sources - by_rust - by_paper);
         println!("  the Rust was asked for the counted length of {counted}; {above} have more words than their counted length");
+        let Respellings { names, accepted, unreadable, both } = self.checker.respellings;
+        println!("Sources with operands that look like labels and have no dot, which the Rust was asked about respelt: {}", names + unreadable + both);
+        println!("  with names alone: {names} ({accepted} accepted), with unreadable ones alone: {unreadable}, with both: {both}");
         println!("Calls of the port:");
         for (name, calls) in &port::CALLS {
             println!("  {name}  {}", calls.load(Relaxed));
@@ -156,11 +160,13 @@ impl Run {
         println!("{} cases, {} differences", self.cases, self.differences);
     }
 
-    /// Whether something was not asked that was to be compared: a function of the port, the room of a source, a counted length of the Rust.
+    /// Whether something was not asked that was to be compared: a function of the port, the room of a source, a counted length of the Rust, a respelt source
+    /// of each sort, one that it accepts.
     fn left_out(&self) -> bool {
         let Rooms { sources, counted, .. } = self.checker.rooms;
+        let Respellings { accepted, unreadable, .. } = self.checker.respellings;
         let called = port::CALLS.iter().all(|(_, calls)| calls.load(Relaxed) > 0) && port::room_calls() >= sources;
-        counted == 0 || !self.checker.dry && !called
+        counted == 0 || accepted == 0 || unreadable == 0 || !self.checker.dry && !called
     }
 }
 

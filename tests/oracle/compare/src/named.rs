@@ -1,4 +1,4 @@
-//! The cases of document 01, of document 02's Point 1 and of the readings of them, with what the papers say of them.
+//! The cases of document 01, of document 02's Points 1 and 2 and of the readings of them, with what the papers say of them.
 use crate::check::{Case, Expected};
 use crate::paper::ORDER;
 use crate::port::Figures;
@@ -56,6 +56,7 @@ pub fn all() -> Vec<Named> {
         scope_bytecodes(),
         refusals(),
         rooms(),
+        names_like_labels(),
         reading_sources(),
         reading_lists(),
         reading_bytecodes(),
@@ -179,11 +180,44 @@ fn rooms() -> Vec<Named> {
         row("room, brackets in op1 alone", "jmp [r1,r2]", room(1, 1, 2, 1)),
         row("room, pc", "cjmp r1 pc", room(1, 1, 1, 1)),
         row("room, a label", "cjmp r1 .LBL1_1", room(1, 1, 2, 2)),
-        row("room, a label that begins as brackets do", "jmp [LBL1_1", room(1, 1, 2, 2)),
         row("room, a name that begins as a register does", "call r10", room(1, 1, 2, 2)),
         row("room, label rows of each kind", ".LBL1_1:\n.PROPHET1_1:\nf.1:\nend\n.PROPHET1_1:", room(5, 1, 1, 1)),
         source("room, a byte above 127", "main:\nend\u{e4}", no_room(2, 9)),
         row("room, an unreadable row", "ret\n\nret 5\nx", no_room(3, 2)),
+    ]
+}
+
+// ---- document 02, Point 2
+
+const CALL: u64 = 0x4000000001000000;
+
+fn names_like_labels() -> Vec<Named> {
+    let called = |name: &'static str, spelt: &str| row(name, &format!("call {spelt}\n{spelt}:\nret"), words(&[CALL, 2, 0x800000]));
+    let three = ".LBL1_2:\ncall xLBL1_2\ncall _LBL1_2\njmp .LBL1_2\n_LBL1_2:\nret\nxLBL1_2:\nend";
+    vec![
+        called("Point 2, a letter", "xLBL1_2"),
+        called("Point 2, an underscore", "_LBL1_2"),
+        called("Point 2, a register's letter", "rLBL1_2"),
+        row("Point 2, a name does not find a .LBL row", ".LBL1_2:\njmp xLBL1_2", refused(10, 0)),
+        row("Point 2, a name in dst", "mov xLBL1_2 r1\nxLBL1_2:\nret", refused(12, 0)),
+        row("Point 2, one name resolves and the next does not", "call xLBL1_2\njmp g\nxLBL1_2:\nret", refused(10, 1)),
+        row("Point 2, a name in mload", "mload r1 xLBL1_2", refused(11, 0)),
+        row("Point 2, a digit in mload", "mload r1 5LBL1_2", refused(3, 1)),
+        row("Point 2, a digit", "call 5LBL1_2\n5LBL1_2:\nret", refused(3, 1)),
+        row("Point 2, a digit in a call row alone", "5LBL1_2:\nret", words(&[0x800000])),
+        row("Point 2, byte 1", "jmp \u{1}LBL1_2", refused(3, 1)),
+        source("Point 2, 3 in place of 5", "f:\njmp 5LBL1_2", refused(3, 1)),
+        row("Point 2, 3 in place of 6", "main:\njmp 5LBL1_2", refused(3, 2)),
+        row("Point 2, 3 in place of a later 3", "jmp 5LBL1_2\nbad", refused(3, 1)),
+        row("Point 2, room, a digit", "call 5LBL1_2", no_room(3, 1)),
+        row("Point 2, room, a letter", "call xLBL1_2", room(1, 1, 2, 2)),
+        row("Point 2, room, a bracket", "jmp [LBL1_1", no_room(3, 1)),
+        called("Point 2, no character", "LBL1_2"),
+        called("Point 2, no digits at the end", "xLBL1_"),
+        called("Point 2, more after the digits", "xLBL1_2_3"),
+        row("Point 2, two dots", "jmp ..LBL1_2", refused(3, 1)),
+        row("Point 2, two names and a label", three, words(&[CALL, 7, CALL, 6, 0x4000000004000000, 0, 0x800000, 0x100000])),
+        row("Point 2, another name's row", "call xLBL1_2\nxaaa1_2:\nret", refused(10, 0)),
     ]
 }
 
@@ -201,12 +235,10 @@ fn reading_sources() -> Vec<Named> {
         row("reading 2, out of range in brackets", "mov r1 [r1,18446744069414584321]", refused(3, 1)),
         row("reading 2, -2^127 in brackets", "mload r1 [r1,r2,-170141183460469231731687303715884105728]", refused(3, 1)),
         row("reading 2, zeros before it", "mov r1 -00170141183460469231731687303715884105728", refused(3, 1)),
-        row("reading 3, any one character", "jmp \u{1}LBL1_2", refused(10, 0)),
         row("reading 3, two names", ".LBL01_2:\njmp .LBL1_2", refused(10, 0)),
-        row("reading 3, another character", ".LBL1_2:\njmp xLBL1_2", refused(10, 0)),
         source("reading 4, another name", "main.1:\nret", refused(5, 0)),
         source("reading 4, beside main", "main.1:\nret\nmain:\nend", words(&[0x0000000000100000, 0x0000000000800000])),
-        source("reading 5, label rows that no operand reaches", "main:\nr1:\n12:\npc:\nxLBL1_1:\nf.1:\n_1:\nend", words(&[0x0000000000100000])),
+        source("reading 5, label rows that no operand reaches", "main:\nr1:\n12:\npc:\n5LBL1_1:\nf.1:\n_1:\nend", words(&[0x0000000000100000])),
         row("reading 5, a register first", "r1:\nmov r2 r1", words(&[0x0000080408000000])),
         row("reading 5, a number first", "12:\nmov r2 12", words(&[0x4000000408000000, 12])),
         row("reading 5, unreadable", "call f.1", refused(3, 1)),
@@ -343,6 +375,8 @@ fn limits() -> Vec<Named> {
         list
     };
     let ends = |size: usize| "end\n".repeat(size / 4);
+    let like_label = |n: u64| format!("{}LBL{n}_0", ["x", "r", "L", "_"][n as usize % 4]);
+    let calls: String = (0..2_000).map(|n| format!("{0}:\ncall {0}\n", like_label(n))).collect();
     let code = |size: usize| format!("{}{}", "0x0000000000800000\n".repeat(size / 19 - 1), "0".repeat(size % 19 + 19 - 6) + "800000");
     vec![
         source("65,536 bytes", &filled("main:\nend", 65_536), words(&[0x0000000000100000])),
@@ -352,6 +386,7 @@ fn limits() -> Vec<Named> {
         source("as many label rows as fit", &format!("main:\n{}", "b:\n".repeat(21_843)), words(&[])),
         source("as many label rows as fit, mapped", &format!("main:\n{}end", "b:\n".repeat(21_842)), words(&[0x0000000000100000])),
         source("labels and jumps", &format!("main:\na:\n{}{}", "b:\n".repeat(3_000), "jmp a\n".repeat(1_500)), room(3_002, 1_500, 3_000, 3_000)),
+        row("names like labels, 2,000 of them", &calls, Expected::Words((0..2_000).flat_map(|n| [CALL, 2 * n]).collect())),
         source("65,537 bytes, no row", &" ".repeat(65_537), refused(1, 0)),
         source("65,536 bytes, no row", &" ".repeat(65_536), refused(4, 0)),
         source("65,536 bytes above 127", &"\u{e4}".repeat(32_768), refused(2, 0)),

@@ -1,6 +1,7 @@
 //! What documents 01 and 02 say and the Rust does not tell: the label table and the figures of a source whose rows are all readable, the form of a prophet
-//! list, the limits, and how words are printed.
+//! list, the limits, how words are printed, and how a source is spelt for the Rust where an operand looks like a label and has no dot.
 use crate::port::{Figures, Label};
+use std::collections::HashSet;
 
 pub const SOURCE_LIMIT: usize = 65_536;
 pub const LIST_LIMIT: usize = 16_384;
@@ -23,10 +24,62 @@ pub fn listed(prophets: &[u8]) -> Option<Vec<&[u8]>> {
     Some(lines.collect())
 }
 
+/// Where a part of a source stands in it.
+fn place(source: &str, part: &str) -> usize {
+    part.as_ptr() as usize - source.as_ptr() as usize
+}
+
 /// The rows of a source, each with its place: the line without its comment and outer whitespace, where that is not empty.
 fn rows(source: &str) -> Vec<(usize, &str)> {
-    let place = |part: &str| part.as_ptr() as usize - source.as_ptr() as usize;
-    source.split('\n').map(|line| line.split(';').next().unwrap().trim()).filter(|row| !row.is_empty()).map(|row| (place(row), row)).collect()
+    source.split('\n').map(|line| line.split(';').next().unwrap().trim()).filter(|row| !row.is_empty()).map(|row| (place(source, row), row)).collect()
+}
+
+/// A source as the Rust is asked about it, how many of its operands are respelt names, and how many were made unreadable.
+pub struct Respelt {
+    pub text: String,
+    pub names: usize,
+    pub unreadable: usize,
+}
+
+/// A source of the same length with no operand that looks like a label and has no dot, where the source has one. "A letter or underscore before LBL is a
+/// name": it gets other letters there, in its call rows too, so that the Rust takes it for a name. "Any other character than a dot makes the row unreadable":
+/// so does `$`. Listed prophets are looked for among prophet rows alone, which stay as they are, so a prophet list needs no respelling.
+pub fn respelt(source: &str) -> Option<Respelt> {
+    let rows: Vec<&str> = rows(source).into_iter().map(|(_, row)| row).collect();
+    let operands = rows.iter().flat_map(|row| row.split_whitespace().skip(1)).filter(|piece| looks_like_a_label(piece));
+    let (names, unreadable): (Vec<&str>, Vec<&str>) = operands.partition(|piece| piece.starts_with(|c: char| c == '_' || c.is_ascii_alphabetic()));
+    if names.is_empty() && unreadable.is_empty() {
+        return None;
+    }
+    let spellings: HashSet<&str> = names.iter().copied().collect();
+    let called = rows.iter().filter_map(|row| row.strip_suffix(':')).filter(|name| spellings.contains(name));
+    let letters = unused_letters(source);
+    let mut text = source.as_bytes().to_vec();
+    for name in names.iter().copied().chain(called) {
+        let start = place(source, name) + 1;
+        text[start..start + 3].copy_from_slice(&letters);
+    }
+    for operand in &unreadable {
+        let start = place(source, operand);
+        text[start..start + operand.len()].fill(b'$');
+    }
+    Some(Respelt { text: String::from_utf8(text).unwrap(), names: names.len(), unreadable: unreadable.len() })
+}
+
+/// Whether a piece is one character that is no dot, then `LBL`, digits, `_` and digits.
+fn looks_like_a_label(piece: &str) -> bool {
+    let digits = |part: &str| !part.is_empty() && part.bytes().all(|byte| byte.is_ascii_digit());
+    let pair = piece.get(1..).and_then(|rest| rest.strip_prefix("LBL")).and_then(|rest| rest.split_once('_'));
+    !piece.starts_with('.') && pair.is_some_and(|(one, two)| digits(one) && digits(two))
+}
+
+/// Three letters that stand nowhere in a source, comments included, so that no name with them is in it. Of the 52 letters there are 140,608 such threes, more
+/// than a source within the limit has places.
+fn unused_letters(source: &str) -> [u8; 3] {
+    let used: HashSet<&[u8]> = source.as_bytes().windows(3).collect();
+    let letters: Vec<u8> = (b'a'..=b'z').chain(b'A'..=b'Z').collect();
+    let three = |n: usize| [letters[n / 2704], letters[n / 52 % 52], letters[n % 52]];
+    (0..52 * 52 * 52).map(three).find(|three| !used.contains(&three[..])).unwrap()
 }
 
 /// The rows in sorted order, and how many main scopes there are.
@@ -69,13 +122,12 @@ fn counted_length(row: &str) -> u64 {
     1 + pieces.iter().skip(if dst_first { 2 } else { 1 }).filter(|piece| !plain(piece)).count() as u64
 }
 
-/// "The words: one for an instruction, one more for mload, mstore or an op1 that is a number, name or label". The last operand of a row is op1. A label may
-/// begin with `[`, but only what is bracketed ends with `]`.
+/// "The words: one for an instruction, one more for mload, mstore or an op1 that is a number, name or label". The last operand of a row is op1.
 fn word_count(row: &str) -> u64 {
     let pieces: Vec<&str> = row.split_whitespace().collect();
     let memory = ["mload", "mstore"].contains(&pieces[0]);
     let op1 = pieces[1..].last();
-    1 + u64::from(memory || op1.is_some_and(|op1| !plain(op1) && !op1.ends_with(']')))
+    1 + u64::from(memory || op1.is_some_and(|op1| !plain(op1) && !op1.starts_with('[')))
 }
 
 /// "The label rows, the instructions, the counted length and the words" of a source, where every row is readable.
