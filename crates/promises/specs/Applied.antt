@@ -1,26 +1,24 @@
--- The promises applied: to document 01's printing source, to two mains, to a label, to two prophets on one host, to carriage returns, and to pairs of
--- sources that are one contract and that are two.
+-- The promises applied: to document 01's printing source, to two mains, to a label, to two prophets on one host, and to carriage returns.
 use Prim.Native.Nat.{ℕ, zero, suc, _≤_, _<_}
-use mathlib.Core.Path.{_≡_, refl, sym, ap, subst, _∙_}
+use mathlib.Core.Path.{_≡_, refl, sym, subst, _∙_}
 use mathlib.Core.List.{List, [], _∷_, map, zipWith}
-use mathlib.Core.Bool.{Bool, true, false}
+use mathlib.Core.Bool.{true}
 use mathlib.Core.Option.{some, Option·some-injective, Option·none-ne-some}
 use native.Mathlib.Omega.{arith}
-use lib.ListN.{length, take, getD, getElem?, replicate}
+use lib.ListN.{length, take, getElem?, replicate}
 use Rattle.text.specs.Bytes.{bytes, isSpace, isDigit, isLetter, isWord, same}
 use Rattle.text.specs.Lists.{total}
 use Rattle.text.specs.Scan.{scan, all, parts}
 use Rattle.text.specs.Lines.{lines, ended}
 use Rattle.text.specs.All.{Ascending}
-use Rattle.text.specs.Answer.{Answer, ok, refused, _>>=_, _>>_, refuseIf, refuseAt}
+use Rattle.text.specs.Answer.{ok, refused, _>>=_, _>>_, refuseIf, refuseAt}
 use Rattle.text.proofs.AnswerLaws.{ok-same}
 use Rattle.text_read.specs.Numerals.{digitValue, valueFrom, numeral}
 use Rattle.text_write.specs.Digits.{digitsOf, digitCount}
 use Rattle.vm_opcodes.specs.Operations.{operations, firstOperation}
 use Rattle.vm_opcodes.specs.declared.OlaOpcode.the-variants.{MOV, JMP, CALL, RET, END}
 use Rattle.vm_hardware.specs.Registers.{registers, registerOf, specialOf}
-use Rattle.vm_hardware.specs.declared.OlaRegister.{OlaRegister}
-use Rattle.vm_hardware.specs.declared.OlaRegister.the-variants.{R1, R2}
+use Rattle.vm_hardware.specs.declared.OlaRegister.the-variants.{R1}
 use Rattle.vm_hardware.specs.declared.Place.the-variants.{Op1}
 use Rattle.vm_operands.specs.Numbers.{signed, numberOf}
 use Rattle.vm_operands.specs.declared.OlaOperand.the-variants.{Empty, RegisterOperand}
@@ -46,9 +44,9 @@ use Rattle.encoder.specs.Canonical.{namesOf, canonicalProgram, general, memory,
 use Rattle.encoder.specs.Assemble.{Room, Accepted, encodedRows, assembled, totalsOf, assembledTotals, wordsLeft}
 use Rattle.decoder.specs.Open.{opened, run}
 use Rattle.decoder.specs.Steps.{runAt, nthCall}
-use Rattle.promises.specs.Terms.{SameProgram, allClean, contentAt, HoldsCount, IsKept}
+use Rattle.promises.specs.Terms.{allClean, contentAt, HoldsCount, IsKept}
 use Rattle.promises.specs.Starred.{plenty, printingSource}
-use Rattle.promises.specs.Promises.{counts-answered, words-left, bytecode-left, room-is-built, words-within-counted, room-refused, room-suffices, room-never-short, run-by-offsets, nth-reads, same-words, same-bytecode, one-program, bytecode-opens, run-reads, words-ahead, accepted-has-rows, names-are-word-counts, later-kept, kept-counted, rows-by-lines, same-lines}
+use Rattle.promises.specs.Promises.{counts-answered, words-left, bytecode-left, room-is-built, words-within-counted, room-refused, room-suffices, room-never-short, run-by-offsets, nth-reads, one-program, bytecode-opens, run-reads, words-ahead, accepted-has-rows, names-are-word-counts, later-kept, kept-counted, rows-by-lines, same-lines}
 
 -- ---- the printing source
 
@@ -291,108 +289,3 @@ return-rows = rows-by-lines returnSource .0
 return-same : map (map textOf) (sourcePieces returnSource) ≡ map (map textOf) (sourcePieces (bytes "main:\nend\n"))
 unfolding parts lines ended
 return-same = same-lines returnSource (bytes "main:\nend\n") refl
-
--- ---- one contract and two
-
--- two sources that are accepted, and what is published of the words of each: the words themselves, or their bytecode
-record Reviewed (published : List ℕ → List ℕ) (s t text other : List ℕ) : Type 0 where
-  first : Accepted
-  second : Accepted
-  first-accepted : assembled s [] plenty ≡ ok first
-  second-accepted : assembled t [] plenty ≡ ok second
-  first-published : published (first .words) ≡ text
-  second-published : published (second .words) ≡ other
-
-abbrev asWords : List ℕ → List ℕ
-asWords ws = ws
-
--- the same is published, and they are one canonical program
-abbrev OneContract : (List ℕ → List ℕ) → List ℕ → List ℕ → List ℕ → Type 0
-OneContract published s t text = (r : Reviewed published s t text text) × SameProgram (r .first .program) (r .second .program)
-
--- something else is published, and they are not
-abbrev TwoContracts : (List ℕ → List ℕ) → List ℕ → List ℕ → List ℕ → List ℕ → Type 0
-TwoContracts published s t text other =
-    (text ≡ other → ⊥) × (r : Reviewed published s t text other) × (SameProgram (r .first .program) (r .second .program) → ⊥)
-
-abbrev movAccepted : OlaRegister → ℕ → Accepted
-movAccepted r w = record { labels = 1; program = made MOV Empty Empty (RegisterOperand r) ∷ []; words = w ∷ []; hosts = [] }
-
-abbrev pcAccepted : Accepted
-pcAccepted = movAccepted R1 0x0000000208000000
-
-abbrev otherAccepted : Accepted
-otherAccepted = movAccepted R2 0x0000000408000000
-
-abbrev movPc : List ℕ
-movPc = bytes "main:\nmov r1 pc"
-
-abbrev movPsp : List ℕ
-movPsp = bytes "main:\nmov r1 psp"
-
-abbrev movOther : List ℕ
-movOther = bytes "main:\nmov r2 pc"
-
-pc-accepted : assembled movPc [] plenty ≡ ok pcAccepted
-unfolding isSpace isDigit isLetter isWord same total scan all parts _>>=_ _>>_ refuseIf refuseAt digitValue valueFrom numeral operations firstOperation registers registerOf specialOf signed numberOf placed filledParts piecesFrom linePieces rowPieces shapes firstMatch arranged operandsOf arrangedIf isCallRow isPairRow labelRow rowOf nameAt cutAtCalls scopesThat rowsOfScopes instructions labelRows holder withoutLastEmpty labelsAfterHead listedLabels hostsFrom firstAbove127 readRows rowsRead sortedOf tabled hostsOf programWords general memory canonicalBy canonicalFrom firstMisplaced encodedRows assembled
-pc-accepted = refl
-
-psp-accepted : assembled movPsp [] plenty ≡ ok pcAccepted
-unfolding isSpace isDigit isLetter isWord same total scan all parts _>>=_ _>>_ refuseIf refuseAt digitValue valueFrom numeral operations firstOperation registers registerOf specialOf signed numberOf placed filledParts piecesFrom linePieces rowPieces shapes firstMatch arranged operandsOf arrangedIf isCallRow isPairRow labelRow rowOf nameAt cutAtCalls scopesThat rowsOfScopes instructions labelRows holder withoutLastEmpty labelsAfterHead listedLabels hostsFrom firstAbove127 readRows rowsRead sortedOf tabled hostsOf programWords general memory canonicalBy canonicalFrom firstMisplaced encodedRows assembled
-psp-accepted = refl
-
-other-accepted : assembled movOther [] plenty ≡ ok otherAccepted
-unfolding isSpace isDigit isLetter isWord same total scan all parts _>>=_ _>>_ refuseIf refuseAt digitValue valueFrom numeral operations firstOperation registers registerOf specialOf signed numberOf placed filledParts piecesFrom linePieces rowPieces shapes firstMatch arranged operandsOf arrangedIf isCallRow isPairRow labelRow rowOf nameAt cutAtCalls scopesThat rowsOfScopes instructions labelRows holder withoutLastEmpty labelsAfterHead listedLabels hostsFrom firstAbove127 readRows rowsRead sortedOf tabled hostsOf programWords general memory canonicalBy canonicalFrom firstMisplaced encodedRows assembled
-other-accepted = refl
-
-abbrev pc-and-psp : (published : List ℕ → List ℕ) → Reviewed published movPc movPsp (published (pcAccepted .words)) (published (pcAccepted .words))
-pc-and-psp published = record {
-  first = pcAccepted;
-  second = pcAccepted;
-  first-accepted = pc-accepted;
-  second-accepted = psp-accepted;
-  first-published = refl;
-  second-published = refl;
-}
-
-abbrev pc-and-other : (published : List ℕ → List ℕ) → Reviewed published movPc movOther (published (pcAccepted .words)) (published (otherAccepted .words))
-pc-and-other published = record {
-  first = pcAccepted;
-  second = otherAccepted;
-  first-accepted = pc-accepted;
-  second-accepted = other-accepted;
-  first-published = refl;
-  second-published = refl;
-}
-
--- `mov r1 pc` and `mov r1 psp` have one word, so they are one contract,
-pc-is-psp : OneContract asWords movPc movPsp (0x0000000208000000 ∷ [])
-pc-is-psp = (pc-and-psp asWords, same-words movPc movPsp [] [] plenty plenty pcAccepted pcAccepted pc-accepted psp-accepted .0 refl)
-
--- and one text of bytecode
-pc-is-psp-bytecode : OneContract bytecodeOf movPc movPsp (bytes "0x0000000208000000")
-unfolding grouped linesOfGroups joined digitsOf digitCount
-pc-is-psp-bytecode = (pc-and-psp bytecodeOf, same-bytecode movPc movPsp [] [] plenty plenty pcAccepted pcAccepted pc-accepted psp-accepted .0 refl)
-
--- `mov r1 pc` and `mov r2 pc` have different words, so they are two,
-pc-is-not-other : TwoContracts asWords movPc movOther (0x0000000208000000 ∷ []) (0x0000000408000000 ∷ [])
-pc-is-not-other = (
-  differ,
-  pc-and-other asWords,
-  λ e. differ (same-words movPc movOther [] [] plenty plenty pcAccepted otherAccepted pc-accepted other-accepted .1 e),
-)
-  where
-    differ : pcAccepted .words ≡ otherAccepted .words → ⊥
-    differ e = omega (arith, ap (λ (ws : List ℕ). getD ws 0 0) e)
-
--- and different texts of bytecode
-pc-is-not-other-bytecode : TwoContracts bytecodeOf movPc movOther (bytes "0x0000000208000000") (bytes "0x0000000408000000")
-unfolding grouped linesOfGroups joined digitsOf digitCount
-pc-is-not-other-bytecode = (
-  differ,
-  pc-and-other bytecodeOf,
-  λ e. differ (same-bytecode movPc movOther [] [] plenty plenty pcAccepted otherAccepted pc-accepted other-accepted .1 e),
-)
-  where
-    differ : bytes "0x0000000208000000" ≡ bytes "0x0000000408000000" → ⊥
-    differ e = omega (arith, ap (λ (text : List ℕ). getD text 9 0) e)

@@ -1,11 +1,11 @@
 -- The promises on any text that opens, applied to bytecode that no source has: a register bit too many, a number in decimal, a last word without its second line.
 use Prim.Native.Nat.{ℕ}
 use mathlib.Core.Path.{_≡_, refl}
-use mathlib.Core.List.{List, [], _∷_, map}
+use mathlib.Core.List.{List, [], _∷_}
 use Rattle.text.specs.Bytes.{bytes, isDigit}
 use Rattle.text.specs.Scan.{all, parts}
 use Rattle.text.specs.Lines.{lines, ended}
-use Rattle.text.specs.Answer.{Answer, ok, refused, _>>=_, _>>_, refuseIf, refuseAt}
+use Rattle.text.specs.Answer.{ok, refused, _>>=_, _>>_, refuseIf, refuseAt}
 use Rattle.text.specs.All.{All}
 use Rattle.text_read.specs.Numerals.{digitValue, valueFrom, numeral, unprefixed, hexadecimal}
 use Rattle.vm_opcodes.specs.Operations.{operations, firstOperation}

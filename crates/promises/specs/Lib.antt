@@ -12,4 +12,5 @@ pub mod LateLaws
 pub mod RoomLaws
 pub mod Promises
 pub mod Applied
+pub mod AppliedPairs
 pub mod AppliedBytecode
