@@ -48,6 +48,12 @@ record Reviewed (published : List ℕ → List ℕ) (s t text other : List ℕ) 
 abbrev asWords : List ℕ → List ℕ
 asWords ws = ws
 
+-- two that are accepted, with what is published of them
+abbrev reviewed : (published : List ℕ → List ℕ) {s t : List ℕ} {a b : Accepted} → assembled s [] plenty ≡ ok a → assembled t [] plenty ≡ ok b
+    → Reviewed published s t (published (a .words)) (published (b .words))
+reviewed published {a = a} {b = b} e f =
+    record { first = a; second = b; first-accepted = e; second-accepted = f; first-published = refl; second-published = refl }
+
 -- the same is published, and they are one canonical program
 abbrev OneContract : (List ℕ → List ℕ) → List ℕ → List ℕ → List ℕ → Type 0
 OneContract published s t text = (r : Reviewed published s t text text) × SameProgram (r .first .program) (r .second .program)
@@ -87,40 +93,20 @@ other-accepted : assembled movOther [] plenty ≡ ok otherAccepted
 unfolding isSpace isDigit isLetter isWord same total scan all parts _>>=_ _>>_ refuseIf refuseAt digitValue valueFrom numeral operations firstOperation registers registerOf specialOf signed numberOf placed filledParts piecesFrom linePieces rowPieces shapes firstMatch arranged operandsOf arrangedIf isCallRow isPairRow labelRow rowOf nameAt cutAtCalls scopesThat rowsOfScopes instructions labelRows holder withoutLastEmpty labelsAfterHead listedLabels hostsFrom firstAbove127 readRows rowsRead sortedOf tabled hostsOf programWords general memory canonicalBy canonicalFrom firstMisplaced encodedRows assembled
 other-accepted = refl
 
-abbrev pc-and-psp : (published : List ℕ → List ℕ) → Reviewed published movPc movPsp (published (pcAccepted .words)) (published (pcAccepted .words))
-pc-and-psp published = record {
-  first = pcAccepted;
-  second = pcAccepted;
-  first-accepted = pc-accepted;
-  second-accepted = psp-accepted;
-  first-published = refl;
-  second-published = refl;
-}
-
-abbrev pc-and-other : (published : List ℕ → List ℕ) → Reviewed published movPc movOther (published (pcAccepted .words)) (published (otherAccepted .words))
-pc-and-other published = record {
-  first = pcAccepted;
-  second = otherAccepted;
-  first-accepted = pc-accepted;
-  second-accepted = other-accepted;
-  first-published = refl;
-  second-published = refl;
-}
-
 -- `mov r1 pc` and `mov r1 psp` have one word, so they are one contract,
 pc-is-psp : OneContract asWords movPc movPsp (0x0000000208000000 ∷ [])
-pc-is-psp = (pc-and-psp asWords, same-words movPc movPsp [] [] plenty plenty pcAccepted pcAccepted pc-accepted psp-accepted .0 refl)
+pc-is-psp = (reviewed asWords pc-accepted psp-accepted, same-words movPc movPsp [] [] plenty plenty pcAccepted pcAccepted pc-accepted psp-accepted .0 refl)
 
 -- and one text of bytecode
 pc-is-psp-bytecode : OneContract bytecodeOf movPc movPsp (bytes "0x0000000208000000")
 unfolding grouped linesOfGroups joined digitsOf digitCount
-pc-is-psp-bytecode = (pc-and-psp bytecodeOf, same-bytecode movPc movPsp [] [] plenty plenty pcAccepted pcAccepted pc-accepted psp-accepted .0 refl)
+pc-is-psp-bytecode = (reviewed bytecodeOf pc-accepted psp-accepted, same-bytecode movPc movPsp [] [] plenty plenty pcAccepted pcAccepted pc-accepted psp-accepted .0 refl)
 
 -- `mov r1 pc` and `mov r2 pc` have different words, so they are two,
 pc-is-not-other : TwoContracts asWords movPc movOther (0x0000000208000000 ∷ []) (0x0000000408000000 ∷ [])
 pc-is-not-other = (
   differ,
-  pc-and-other asWords,
+  reviewed asWords pc-accepted other-accepted,
   λ e. differ (same-words movPc movOther [] [] plenty plenty pcAccepted otherAccepted pc-accepted other-accepted .1 e),
 )
   where
@@ -132,7 +118,7 @@ pc-is-not-other-bytecode : TwoContracts bytecodeOf movPc movOther (bytes "0x0000
 unfolding grouped linesOfGroups joined digitsOf digitCount
 pc-is-not-other-bytecode = (
   differ,
-  pc-and-other bytecodeOf,
+  reviewed bytecodeOf pc-accepted other-accepted,
   λ e. differ (same-bytecode movPc movOther [] [] plenty plenty pcAccepted otherAccepted pc-accepted other-accepted .1 e),
 )
   where
@@ -164,16 +150,17 @@ plain-accepted : assembled callPlain [] plenty ≡ ok callAccepted
 unfolding isSpace isDigit isLetter isWord same total scan all parts _>>=_ _>>_ refuseIf refuseAt digitValue valueFrom numeral operations firstOperation registers registerOf specialOf signed numberOf placed filledParts piecesFrom linePieces rowPieces shapes firstMatch arranged operandsOf arrangedIf isCallRow isPairRow labelRow rowOf nameAt cutAtCalls scopesThat rowsOfScopes instructions labelRows holder withoutLastEmpty labelsAfterHead listedLabels hostsFrom firstAbove127 readRows rowsRead sortedOf tabled hostsOf programWords general memory canonicalBy canonicalFrom firstMisplaced encodedRows assembled
 plain-accepted = refl
 
--- so calling by it and calling by `f` are one contract
+-- so calling by it and calling by `f` are one contract,
 like-is-plain : OneContract asWords callLike callPlain (0x4000000001000000 ∷ 2 ∷ 0x0000000000800000 ∷ [])
 like-is-plain = (
-  record {
-    first = callAccepted;
-    second = callAccepted;
-    first-accepted = like-accepted;
-    second-accepted = plain-accepted;
-    first-published = refl;
-    second-published = refl;
-  },
+  reviewed asWords like-accepted plain-accepted,
   same-words callLike callPlain [] [] plenty plenty callAccepted callAccepted like-accepted plain-accepted .0 refl,
+)
+
+-- and one text of bytecode
+like-is-plain-bytecode : OneContract bytecodeOf callLike callPlain (bytes "0x4000000001000000\n0x2\n0x0000000000800000")
+unfolding grouped linesOfGroups joined digitsOf digitCount
+like-is-plain-bytecode = (
+  reviewed bytecodeOf like-accepted plain-accepted,
+  same-bytecode callLike callPlain [] [] plenty plenty callAccepted callAccepted like-accepted plain-accepted .0 refl,
 )
