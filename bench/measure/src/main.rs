@@ -252,6 +252,11 @@ fn print(what: &str, name: &str, bytes: usize, port: f64, beside: f64) {
 }
 
 fn main() {
+    // A processor may be slower while a program begins; that second is not told.
+    let start = now();
+    while now() - start < 1e9 {
+        black_box(parts(black_box(b"main:\nend")));
+    }
     for (name, source) in sources::assembled() {
         let bytes = source.as_bytes();
         let found =
