@@ -1,8 +1,9 @@
 /* The Ola assembler and bytecode reader for C and other languages: target/staticlib/libola_c.a, which `rt staticlib ola_c` writes.
  *
- * Every function but ola_version and ola_label_name answers a struct whose first field is a refusal: 0 means accepted, 1 to 24 are the refusals of the scope
- * document, 255, which is this interface's own, an instruction whose numbers name none. On refusal every other field but the detail is 0 (a
- * step's line stays where it was), and what was lent is as it was, but that refusals above 7 of assembling leave the label table filled.
+ * Every function but ola_version, ola_label_name and ola_meter_open answers a struct whose first field is a refusal (of ola_meter_build the first field of
+ * its assembly): 0 means accepted, 1 to 24 are the refusals of the scope document, 255, which is this interface's own, an instruction whose numbers name
+ * none. On refusal every other field but the detail is 0 (a step's line stays where it was, and a meter is the one that was given, not zero), and what was
+ * lent is as it was, but that refusals above 7 of assembling, on a meter too, leave the label table filled.
  *
  * What a caller owes, and no function can test:
  *  - each pointer points to as many elements as the length after it says, aligned as their type is; all of them may be read, and written where
@@ -31,11 +32,11 @@ extern "C" {
 
 /* The version of this header, and that of the library. A caller compares the two before any other call: structs come back by value, so a header of another
    version over the library could corrupt the caller's stack. It is raised whenever a function is added, or a struct, a signature or an answer changes. */
-#define OLA_VERSION 3
+#define OLA_VERSION 4
 uint64_t ola_version(void);
 
-/* The stack of ola_assemble, which has a label table of its own there; of ola_assemble_parts, which chains the table's names there, to find them quickly;
-   of every other function. */
+/* The stack of ola_assemble, which has a label table of its own there; of ola_assemble_parts and ola_meter_build, which chain the table's names there, to
+   find them quickly; of every other function. */
 #define OLA_STACK_ASSEMBLE 655360
 #define OLA_STACK_ASSEMBLE_PARTS 65536
 #define OLA_STACK_OTHER 8192
@@ -46,6 +47,12 @@ typedef struct { uint8_t kind; bool mapped; size_t start, length; uint64_t addre
 
 /* What assembling answers: how many table entries, words and hosts were written, and how many prophets are kept. */
 typedef struct { uint64_t refusal, detail, labels, words, hosts, kept; } ola_assembly;
+
+/* The build meter: the words of all accepted builds since it was opened; 2^64 - 1 where there were more. */
+typedef struct { uint64_t total; } ola_meter;
+
+/* What a build on a meter answers: what assembling answers, and the meter after it. */
+typedef struct { ola_assembly assembly; ola_meter meter; } ola_metered;
 
 /* What a source takes: its label rows, instructions, counted length and words. */
 typedef struct { uint64_t refusal, detail, labels, instructions, counted, words; } ola_room;
@@ -86,6 +93,18 @@ ola_assembly ola_assemble(const uint8_t *source, size_t source_len, const uint8_
 /* The same with the table as five arrays; 7 where the shortest of them is shorter than the label rows. Each `mapped` of the table is 0 or 1 before
    the call, a fresh table's too: a table that was never initialised is the caller's fault. */
 ola_assembly ola_assemble_parts(const uint8_t *source, size_t source_len, const uint8_t *prophets, size_t prophets_len,
+                          uint8_t *kinds, size_t kinds_len, bool *mapped, size_t mapped_len, size_t *starts, size_t starts_len,
+                          size_t *lengths, size_t lengths_len, uint64_t *addresses, size_t addresses_len,
+                          uint64_t *words, size_t words_len, uint64_t *hosts, size_t hosts_len);
+
+/* A meter at its start. */
+ola_meter ola_meter_open(void);
+
+/* Assembles as ola_assemble_parts does, and counts the words of an accepted build. Refusals 1 to 13. Each build takes the meter that the last one answered:
+   a meter is a number of the caller's, and nothing here remembers it. So two builds on one meter, from two threads too, count one, and what ola_assemble
+   and ola_assemble_parts build no meter counts. At 2^64 - 1 a build is accepted as ever, and the meter stays there. Any meter may be given, one that
+   ola_meter_open never answered too. */
+ola_metered ola_meter_build(ola_meter meter, const uint8_t *source, size_t source_len, const uint8_t *prophets, size_t prophets_len,
                           uint8_t *kinds, size_t kinds_len, bool *mapped, size_t mapped_len, size_t *starts, size_t starts_len,
                           size_t *lengths, size_t lengths_len, uint64_t *addresses, size_t addresses_len,
                           uint64_t *words, size_t words_len, uint64_t *hosts, size_t hosts_len);

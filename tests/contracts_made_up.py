@@ -64,6 +64,18 @@ stepTold r = record {
 abbrev pub points : RefT (List ℕ) → Reference
 points r = record { points = ptr r; length = length (now r) }
 
+-- whole: what two buffers hold
+abbrev pub bothHold : RefT (List ℕ) → RefT (List ℕ) → Both
+bothHold t u = record { first = now t; second = record { held = now u } }
+
+-- the second is lost
+abbrev pub firstHolds : RefT (List ℕ) → RefT (List ℕ) → Both
+firstHolds t u = record { first = now t; second = half (now u) }
+
+-- where the second points
+abbrev pub secondPoints : RefT (List ℕ) → RefT (List ℕ) → Both
+secondPoints t u = record { first = now t; second = ptr u }
+
 -- the answer of Blank is one of Refused's too
 abbrev pub readMerged : Read → Answer ℕ
 readMerged (Is n) = ok n
@@ -155,12 +167,15 @@ whyLine (NoPlace line column) = line .0
 """,
     'crates/made/src/right.rt': """
 use made::Step;
-ghost use Rattle.made.specs.Maps.{readTold, stepTold, kindTold, points, good, good as fine};
+ghost use Rattle.made.specs.Maps.{readTold, stepTold, kindTold, points, bothHold, good, good as fine};
 pub fn plain(x: u8) -> u8
     ensures { λ r. ⌜ r ≡ good x ⌝ }
 { x }
 pub fn lent(t: &mut [u8], u: &mut [bool]) -> Kind
     ensures { λ r. ⌜ (kindTold r ≡ fine (now (t .entry))) × ((now (t .exit) ≡ good 1) × (now (u .exit) ≡ good 2)) ⌝ }
+{ x }
+pub fn lent_together(t: &mut [u8], u: &mut [u8])
+    ensures { λ _. ⌜ bothHold (t .exit) (u .exit) ≡ good (now (t .entry)) ⌝ }
 { x }
 pub fn cases(x: u8) -> Read
     ensures { λ r. ⌜ readTold r ≡ good x ⌝ }
@@ -183,7 +198,7 @@ pub fn reference_itself<'a>(text: &'a [u8]) -> &'a [u8]
 use made::Read;
 use made::Step;
 ghost use lib.ListN.{length};
-ghost use Rattle.made.specs.Maps.{good, readTold, readMerged, readLineOnly, readWild, stepForgets, stepHalves, points};
+ghost use Rattle.made.specs.Maps.{good, readTold, readMerged, readLineOnly, readWild, stepForgets, stepHalves, points, bothHold, firstHolds, secondPoints};
 ghost use Rattle.made.specs.Maps.{kindWild, kindMerged, kindLacks, kindUnlisted, kindNumerals, kindAlias, kindHidden, readLiteral};
 use made::Within;
 // nothing is said of the result
@@ -245,6 +260,22 @@ pub fn two_facts(x: u8) -> u8
 // a length alone is said
 pub fn as_long(t: &mut [u8])
     ensures { λ _. ⌜ length (now (t .exit)) ≡ good 1 ⌝ }
+{ }
+// nothing is said of u at the exit
+pub fn one_buffer_halved(t: &mut [u8], u: &mut [u8])
+    ensures { λ _. ⌜ firstHolds (t .exit) (u .exit) ≡ good 1 ⌝ }
+{ }
+// nothing is said of u at the exit
+pub fn one_buffer_pointed_at(t: &mut [u8], u: &mut [u8])
+    ensures { λ _. ⌜ secondPoints (t .exit) (u .exit) ≡ good 1 ⌝ }
+{ }
+// nothing is said of u at the exit
+pub fn one_buffer_twice(t: &mut [u8], u: &mut [u8])
+    ensures { λ _. ⌜ bothHold (t .exit) (t .exit) ≡ good 1 ⌝ }
+{ }
+// nothing is said of t at the exit
+pub fn buffers_before(t: &mut [u8], u: &mut [u8])
+    ensures { λ _. ⌜ bothHold (t .entry) (u .exit) ≡ good 1 ⌝ }
 { }
 // `kindUnlisted` is no listed map
 pub fn unlisted(x: u8) -> Kind

@@ -18,6 +18,7 @@ use Rattle.encoder.specs.declared.AssembleRefusal.the-variants.{Relocate}
 use Rattle.encoder.specs.declared.Totals.{Totals}
 use Rattle.encoder.specs.declared.Assembly.{Assembly}
 use Rattle.encoder.specs.declared.Assembly.the-variants.{Refused as NotAssembled, Assembled}
+use Rattle.meter.specs.declared.Meter.{Meter}
 use Rattle.program.specs.Refusals.{rowNumber, encodeNumber, encodeDetail}
 use Rattle.program.specs.declared.InstructionWords.{InstructionWords}
 use Rattle.program.specs.declared.SecondWord.the-variants.{Number, Nothing}
@@ -35,7 +36,9 @@ use Rattle.program_listing.specs.declared.RowWritten.the-variants.{Is as IsRow,
 use Rattle.program_encode.specs.Encoding.{encodingNumbered}
 use Rattle.program_encode.specs.declared.Encoding.{Encoding}
 use Rattle.program_encode.specs.declared.Encoding.the-variants.{Is as IsEncoded, Refused as NotEncoded}
-use Rattle.ola_answers.specs.Answers.{assemblyOf, figuresOut, writtenOf, encodingOf, nameOf}
+use Rattle.ola_answers.specs.Answers.{assemblyOf, meteredOf, figuresOut, writtenOf, encodingOf, nameOf}
+use Rattle.ola_answers.specs.declared.OlaAssembly.{OlaAssembly}
+use Rattle.ola_answers.specs.declared.OlaMetered.{OlaMetered}
 use Rattle.ola_answers.specs.declared.OlaWritten.{OlaWritten}
 
 -- ---- assembling
@@ -49,6 +52,12 @@ pub unassembled-out : (a : Assembly) (f : AssembleRefusal) (n d : ℕ) → a ≡
 unassembled-out a f n d e g h = rw (e, g, h)
 
 pub ruleset assembly-laws = (assembled-out, unassembled-out, needs)
+
+-- beside it the meter after it
+pub metered-told : (a : Assembly) (m : Meter) (r : OlaAssembly) → r ≡ assemblyOf (numbered a) → _≡_ {A = OlaMetered} (record { assembly = r; meter = m }) (meteredOf (numbered a) m)
+metered-told a m r e = rw (e)
+
+pub ruleset metered-laws = (metered-told, needs)
 
 -- ---- what a source takes
 

@@ -8,7 +8,9 @@ use Rattle.program.specs.declared.InstructionWords.{InstructionWords}
 use Rattle.program.specs.declared.SecondWord.{SecondWord}
 use Rattle.program.specs.declared.SecondWord.the-variants.{Number, Nothing}
 use Rattle.encoder.specs.declared.Totals.{Totals}
+use Rattle.meter.specs.declared.Meter.{Meter}
 use Rattle.ola_answers.specs.declared.OlaAssembly.{OlaAssembly}
+use Rattle.ola_answers.specs.declared.OlaMetered.{OlaMetered}
 use Rattle.ola_answers.specs.declared.OlaRoom.{OlaRoom}
 use Rattle.ola_answers.specs.declared.OlaWritten.{OlaWritten}
 use Rattle.ola_answers.specs.declared.OlaEncoding.{OlaEncoding}
@@ -17,6 +19,10 @@ use Rattle.ola_answers.specs.declared.OlaName.{OlaName}
 abbrev pub assemblyOf : Answer Totals → OlaAssembly
 assemblyOf (ok t) = record { refusal = 0; detail = 0; labels = t .labels; words = t .words; hosts = t .hosts; kept = t .kept }
 assemblyOf (refused n d) = record { refusal = n; detail = d; labels = 0; words = 0; hosts = 0; kept = 0 }
+
+-- beside it the meter after it, which a refusal does not make 0
+abbrev pub meteredOf : Answer Totals → Meter → OlaMetered
+meteredOf answer m = record { assembly = assemblyOf answer; meter = m }
 
 -- what a source takes
 abbrev pub figuresOut : Answer RoomFigures → OlaRoom

@@ -2,6 +2,8 @@
 // detail is 0. Nothing but conversions.
 use encoder::AssembleRefusal;
 use encoder::Assembly;
+use meter::Meter;
+use meter::Metered;
 use program::EncodeRefusal;
 use program::RowRefusal;
 use program::SecondWord;
@@ -18,7 +20,7 @@ ghost use Rattle.program.specs.Refusals.{rowNumber, encodeNumber, encodeDetail}
 ghost use Rattle.program_bytecode.specs.Written.{writtenNumbered};
 ghost use Rattle.program_encode.specs.Encoding.{encodingNumbered};
 ghost use Rattle.program_listing.specs.Row.{rowNumbered};
-ghost use Rattle.ola_answers.specs.Answers.{assemblyOf, figuresOut, writtenOf, encodingOf, nameOf};
+ghost use Rattle.ola_answers.specs.Answers.{assemblyOf, meteredOf, figuresOut, writtenOf, encodingOf, nameOf};
 
 #[repr(C)]
 pub struct OlaAssembly {
@@ -28,6 +30,12 @@ pub struct OlaAssembly {
     pub words: u64,
     pub hosts: u64,
     pub kept: u64,
+}
+
+#[repr(C)]
+pub struct OlaMetered {
+    pub assembly: OlaAssembly,
+    pub meter: Meter,
 }
 
 #[repr(C)]
@@ -83,6 +91,18 @@ pub fn assembly_out(answer: Assembly) -> OlaAssembly
             hosts: totals.hosts as u64,
             kept: totals.kept as u64,
         },
+    }
+}
+
+// What a build on a meter answered; the meter as it is, on refusal too.
+pub fn metered_out(answer: Metered) -> OlaMetered
+    ensures { λ r. ⌜ r ≡ meteredOf (numbered (answer .assembly)) (answer .meter) ⌝ }
+{
+    let assembly = answer.assembly;
+    let meter = answer.meter;
+    OlaMetered {
+        assembly: assembly_out(assembly),
+        meter,
     }
 }
 

@@ -9,6 +9,8 @@ use Rattle.relocate.specs.Room.{roomNumbered}
 use Rattle.relocate.specs.declared.RoomFigures.{RoomFigures}
 use Rattle.relocate.specs.declared.RoomFound.{RoomFound}
 use Rattle.encoder.specs.Assemble.{numbered}
+use Rattle.meter.specs.declared.Meter.{Meter}
+use Rattle.meter.specs.declared.Metered.{Metered}
 use Rattle.encoder.specs.declared.Totals.{Totals}
 use Rattle.encoder.specs.declared.Assembly.{Assembly}
 use Rattle.program.specs.Words.{encoded}
@@ -29,8 +31,9 @@ use Rattle.ola_places.specs.Places.{instructionIn}
 use Rattle.ola_places.specs.declared.OlaInstruction.{OlaInstruction}
 use Rattle.ola_places.specs.declared.InstructionNamed.{InstructionNamed}
 use Rattle.ola_places.specs.declared.InstructionNamed.the-variants.{Is, Nothing}
-use Rattle.ola_answers.specs.Answers.{assemblyOf, figuresOut, writtenOf, encodingOf}
+use Rattle.ola_answers.specs.Answers.{assemblyOf, meteredOf, figuresOut, writtenOf, encodingOf}
 use Rattle.ola_answers.specs.declared.OlaAssembly.{OlaAssembly}
+use Rattle.ola_answers.specs.declared.OlaMetered.{OlaMetered}
 use Rattle.ola_answers.specs.declared.OlaWritten.{OlaWritten}
 use Rattle.ola_answers.specs.declared.OlaEncoding.{OlaEncoding}
 use Rattle.ola_answers.specs.declared.OlaName.{OlaName}
@@ -42,6 +45,10 @@ use Rattle.ola_c.specs.Exports.{lineStep, offsetStep, encodingNamed, lis
 
 pub assembly-answers : (a : Assembly) (x : Answer Totals) (r : OlaAssembly) → numbered a ≡ x → r ≡ assemblyOf (numbered a) → r ≡ assemblyOf x
 assembly-answers a x r e g = g ∙ ap assemblyOf e
+
+pub metered-answers : (a : Metered) (x : Answer Totals) (m : Meter) (r : OlaMetered) → numbered (a .assembly) ≡ x → a .meter ≡ m
+    → r ≡ meteredOf (numbered (a .assembly)) (a .meter) → r ≡ meteredOf x m
+metered-answers a x m r e f g = rw (g, e, f)
 
 pub room-answers : (a : RoomFound) (x : Answer RoomFigures) (r : OlaRoom) → roomNumbered a ≡ x → r ≡ figuresOut (roomNumbered a) → r ≡ figuresOut x
 room-answers a x r e g = g ∙ ap figuresOut e
@@ -58,7 +65,7 @@ line-answers a x r e g = g ∙ ap lineStep e
 pub offset-answers : (a : StepAt) (x : SteppedAt) (r : OlaStep) → stepNumbered a ≡ x → r ≡ stepOf (foundNumbered (a .found)) (a .offset) → r ≡ offsetStep x
 offset-answers a x r e g = g ∙ ap offsetStep e
 
-pub ruleset answer-laws = (assembly-answers, room-answers, written-answers, opened-answers, line-answers, offset-answers, needs)
+pub ruleset answer-laws = (assembly-answers, metered-answers, room-answers, written-answers, opened-answers, line-answers, offset-answers, needs)
 
 -- ---- an instruction given as numbers
 

@@ -1,6 +1,8 @@
 // The C interface: include/ola.h declares these functions. Nothing but conversions.
+use meter::Meter;
 use ola_answers::OlaAssembly;
 use ola_answers::OlaEncoding;
+use ola_answers::OlaMetered;
 use ola_answers::OlaName;
 use ola_answers::OlaRoom;
 use ola_answers::OlaWritten;
@@ -19,15 +21,17 @@ ghost use Rattle.relocate_names.specs.Shortest.{shortestOf};
 ghost use Rattle.program.specs.Bytecode.{bytecodeWritten, textLeft};
 ghost use Rattle.program_bytecode.specs.Written.{countOf};
 ghost use Rattle.encoder.specs.Assemble.{assembled, assembledTotals, wordsLeft, hostsLeft};
+ghost use Rattle.meter.specs.Meter.{atStart, meterAfter};
+ghost use Rattle.meter_builds.specs.Lent.{lentIn, roomIn, lentLeft};
 ghost use Rattle.decoder.specs.Open.{opened};
 ghost use Rattle.decoder.specs.Steps.{acceptedOf, stepped, steppedAt};
 ghost use Rattle.ola_places.specs.Places.{instructionIn};
-ghost use Rattle.ola_answers.specs.Answers.{assemblyOf, figuresOut, writtenOf, nameOf};
+ghost use Rattle.ola_answers.specs.Answers.{assemblyOf, meteredOf, figuresOut, writtenOf, nameOf};
 ghost use Rattle.ola_steps.specs.Steps.{openedOf};
 ghost use Rattle.ola_c.specs.Exports.{version, lineStep, offsetStep, encodingNamed, listed, listedText};
 
 // The version of this interface: that of include/ola.h. It is raised whenever a function is added, or a struct, a signature or an answer changes.
-pub const OLA_VERSION: u64 = 3;
+pub const OLA_VERSION: u64 = 4;
 
 // The version of the library, which a caller compares with its header's.
 // Promises: none; its contract is its whole outcome.
@@ -103,6 +107,48 @@ pub extern "C" fn ola_assemble(
 {
     let answer = encoder_entries::assemble(source, prophets, table, words, hosts);
     ola_answers::assembly_out(answer)
+}
+
+// A meter at its start.
+// Promises: meter-counts.
+#[no_mangle]
+pub extern "C" fn ola_meter_open() -> Meter
+    ensures { λ r. ⌜ r ≡ atStart ⌝ }
+{
+    Meter::open()
+}
+
+// Assembles a source with a prophet list over parallel arrays, on a meter.
+// Promises: meter-counts, meter-from, meter-kept, and those of ola_assemble_parts: its answer, and what is left, are the same.
+#[no_mangle]
+pub extern "C" fn ola_meter_build(
+    meter: Meter,
+    source: &[u8],
+    prophets: &[u8],
+    kinds: &mut [u8],
+    mapped: &mut [bool],
+    starts: &mut [usize],
+    lengths: &mut [usize],
+    addresses: &mut [u64],
+    words: &mut [u64],
+    hosts: &mut [u64],
+) -> OlaMetered
+    ensures { λ r. ⌜ r ≡ meteredOf (assembledTotals (now (source .entry)) (now (prophets .entry)) (roomIn (lentIn (kinds .entry) (mapped .entry) (starts .entry) (lengths .entry) (addresses .entry) (words .entry) (hosts .entry)))) (meterAfter meter (assembled (now (source .entry)) (now (prophets .entry)) (roomIn (lentIn (kinds .entry) (mapped .entry) (starts .entry) (lengths .entry) (addresses .entry) (words .entry) (hosts .entry))))) ⌝ }
+    ensures { λ _. ⌜ lentIn (kinds .exit) (mapped .exit) (starts .exit) (lengths .exit) (addresses .exit) (words .exit) (hosts .exit) ≡ lentLeft (now (source .entry)) (now (prophets .entry)) (lentIn (kinds .entry) (mapped .entry) (starts .entry) (lengths .entry) (addresses .entry) (words .entry) (hosts .entry)) ⌝ }
+{
+    let answer = meter_builds::build_parts(
+        meter,
+        source,
+        prophets,
+        kinds,
+        mapped,
+        starts,
+        lengths,
+        addresses,
+        words,
+        hosts,
+    );
+    ola_answers::metered_out(answer)
 }
 
 // The part of a source that an entry's name is.

@@ -14,3 +14,4 @@ pub mod Promises
 pub mod Applied
 pub mod AppliedPairs
 pub mod AppliedBytecode
+pub mod AppliedBuilds

@@ -3,7 +3,7 @@
 -- definitions. Of ola_label_name, ola_encode, ola_listing_row and ola_version no theorem speaks: their contracts are their whole outcome.
 -- A source is accepted where assembling it, with some prophets and some room, answers ok a: a .program is then its canonical program, made
 -- from its rows, a .words its words, and bytecodeOf (a .words) its bytecode.
-use Prim.Native.Nat.{ℕ, suc, _-_, _≤_, _<_}
+use Prim.Native.Nat.{ℕ, suc, _+_, _-_, _≤_, _<_}
 use mathlib.Core.Logic.{_↔_}
 use mathlib.Core.Path.{_≡_, refl, sym, ap, _∙_}
 use mathlib.Core.List.{List, _++_, map}
@@ -11,6 +11,7 @@ use mathlib.Core.Bool.{true}
 use mathlib.Core.Option.{some}
 use lib.ListN.{length, take, getD, replicate, getElem?, length-map}
 use Rattle.text.specs.Lines.{lines}
+use Rattle.text.specs.Lists.{total}
 use Rattle.text.specs.Answer.{Answer, ok, refused, _>>=_}
 use Rattle.text.specs.All.{All, Ascending}
 use Rattle.vm_hardware.specs.declared.Place.{Place}
@@ -33,6 +34,9 @@ use Rattle.program.specs.CanonicalForm.{CanonicalForm, InOrder}
 use Rattle.program.proofs.FormLaws.{words-before}
 use Rattle.encoder.specs.Canonical.{namesOf, canonicalProgram}
 use Rattle.encoder.specs.Assemble.{Room, Accepted, assembled, totalsOf, assembledTotals, wordsLeft}
+use Rattle.meter.specs.Meter.{Build, builtOf, added, stopped, totalOf, atStart, meterAfter, played}
+use Rattle.meter.specs.declared.Meter.{Meter}
+use Rattle.meter.proofs.Laws.{played-counts, played-from, refused-keeps}
 use Rattle.decoder.specs.AsRead.{asRead, asCanonical}
 use Rattle.decoder.specs.Open.{opened, run}
 use Rattle.decoder.specs.Steps.{runAt, nthCall}
@@ -217,3 +221,22 @@ rows-by-lines s = lines-read s
 -- A reviewer may change the line endings of a source and find the same pieces in the same rows, as long as the source does not pass 65,536 bytes by it.
 pub same-lines : (s t : List ℕ) → lines s ≡ lines t → map (map textOf) (sourcePieces s) ≡ map (map textOf) (sourcePieces t)
 same-lines s t e = lines-texts s ∙ ap textRows e ∙ sym (lines-texts t)
+
+-- Any builds, one after another on one meter: the first on a meter at its start, each other on the meter that the one before it returned. The meter then
+-- holds the total of their history: the words of the accepted ones, 2^64 - 1 where they are more.
+-- Of meter::Meter::open and meter_builds::build_parts, ola_meter_open and ola_meter_build.
+-- The front desk may read the total off the meter, whatever was built on it and refused.
+pub meter-counts : (bs : List Build) → played atStart bs .total ≡ totalOf (map builtOf bs)
+meter-counts = played-counts
+
+-- The same from any meter that a caller can hold: its total, and what the builds added to it.
+-- Of meter_builds::build_parts, meter::Meter::after and ola_meter_build.
+-- A total that was put by may be given back later, and the counting goes on from there.
+pub meter-from : (m : Meter) (bs : List Build) → m .total ≤ 18446744073709551615 → played m bs .total ≡ stopped (m .total + total (map added (map builtOf bs)))
+meter-from = played-from
+
+-- A refused build returns the meter that it was given.
+-- Of the same functions.
+-- Who tries a source until it is accepted counts it once.
+pub meter-kept : (m : Meter) (b : Build) (n d : ℕ) → builtOf b ≡ refused n d → meterAfter m (builtOf b) ≡ m
+meter-kept m b = refused-keeps m (builtOf b)
