@@ -1,7 +1,8 @@
 // Room, then assembling over parallel slices, on document 01's printing source: the figures before the build, the counts after it, the label table and
-// the prophet's host. The README shows these calls.
+// the prophet's host; then builds on a meter. The README shows these calls.
 use encoder::Assembly;
 use libc::STDOUT_FILENO;
+use meter::Meter;
 use relocate::LabelEntry;
 use relocate::RoomFound;
 use relocate::WordAddress;
@@ -77,6 +78,46 @@ fn print_place(
     });
 }
 
+// Builds a source without prophets on a meter, prints the total after it, and answers the meter.
+fn build(meter: Meter, source: &[u8]) -> Meter {
+    let mut kinds = [0u8; 8];
+    let mut mapped = [false; 8];
+    let mut starts = [0usize; 8];
+    let mut lengths = [0usize; 8];
+    let mut addresses = [0u64; 8];
+    let mut words = [0u64; 6];
+    let mut hosts = [0u64; 1];
+    let metered = meter_builds::build_parts(
+        meter,
+        source,
+        b"",
+        &mut kinds,
+        &mut mapped,
+        &mut starts,
+        &mut lengths,
+        &mut addresses,
+        &mut words,
+        &mut hosts,
+    );
+    let after = metered.meter;
+    io::print_decimal(STDOUT_FILENO, after.total);
+    io::write_all(STDOUT_FILENO, b" words in all\n");
+    after
+}
+
+// Each build is on the meter that the last one answered: an accepted one, a refused one, the first again. Then one that reaches the stop.
+fn print_totals() {
+    let first = build(Meter::open(), &SOURCE);
+    let second = build(first, b"main:\njmp g");
+    let third = build(second, &SOURCE);
+    let at_most = build(
+        Meter {
+            total: Meter::MOST - 1,
+        },
+        &SOURCE,
+    );
+}
+
 fn main() {
     print_room(relocate_measure::room_of(&SOURCE));
     let mut kinds = [0u8; 8];
@@ -103,4 +144,5 @@ fn main() {
     print_place(&kinds, &mapped, &starts, &lengths, &addresses, 2);
     io::print_decimal(STDOUT_FILENO, hosts[0]);
     io::write_all(STDOUT_FILENO, b" host\n");
+    print_totals();
 }
