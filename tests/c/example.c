@@ -41,10 +41,13 @@ static int untouched(const void *buffer, size_t size)
 #define WORDS 8
 #define HOSTS 4
 
-static uint8_t kinds[ENTRIES];
-static bool mapped[ENTRIES];
-static size_t starts[ENTRIES], lengths[ENTRIES];
-static uint64_t addresses[ENTRIES], words[WORDS], hosts[HOSTS];
+/* What stands past the most that is lent. */
+#define PAST 2
+
+static uint8_t kinds[ENTRIES + PAST];
+static bool mapped[ENTRIES + PAST];
+static size_t starts[ENTRIES + PAST], lengths[ENTRIES + PAST];
+static uint64_t addresses[ENTRIES + PAST], words[WORDS + PAST], hosts[HOSTS + PAST];
 
 static void clear(void)
 {
@@ -68,6 +71,12 @@ static int assembly_is(ola_assembly a, uint64_t refusal, uint64_t detail, uint64
     return a.refusal == refusal && a.detail == detail && a.labels == labels && a.words == n && a.hosts == host_count && a.kept == kept;
 }
 
+static int table_untouched(void)
+{
+    return untouched(kinds, sizeof kinds) && untouched(starts, sizeof starts) && untouched(lengths, sizeof lengths)
+           && untouched(addresses, sizeof addresses);
+}
+
 /* A source that is refused: number and detail, every count 0, words and hosts untouched; the table too, up to refusal 7. */
 static void declines(const char *what, const char *source, const char *prophets, size_t entries, size_t word_room, size_t host_room,
                      uint64_t refusal, uint64_t detail)
@@ -75,8 +84,7 @@ static void declines(const char *what, const char *source, const char *prophets,
     clear();
     ola_assembly a = parts(source, strlen(source), prophets, entries, word_room, host_room);
     say(what, assembly_is(a, refusal, detail, 0, 0, 0, 0) && untouched(words, sizeof words) && untouched(hosts, sizeof hosts)
-              && (refusal > 7 || (untouched(kinds, sizeof kinds) && untouched(starts, sizeof starts)
-                                  && untouched(lengths, sizeof lengths) && untouched(addresses, sizeof addresses))));
+              && (refusal > 7 || table_untouched()));
 }
 
 /* ---- document 01, "The printing program" */
@@ -236,6 +244,168 @@ static void telling_room(void)
     say("room_of: one word less is 13", assembly_is(a, 13, 0, 0, 0, 0, 0));
     a = ola_assemble(bytes(SOURCE), strlen(SOURCE), bytes(""), 0, table, room.labels - 1, words, room.words, hosts, 0);
     say("room_of: one entry less is 7", assembly_is(a, 7, 0, 0, 0, 0, 0));
+}
+
+/* ---- document 02, Point 3 */
+
+/* All that is lent, as a call left it. */
+struct left {
+    uint8_t kinds[sizeof kinds], mapped[sizeof mapped], starts[sizeof starts], lengths[sizeof lengths], addresses[sizeof addresses],
+        words[sizeof words], hosts[sizeof hosts];
+};
+
+static void keep(struct left *left)
+{
+    memcpy(left->kinds, kinds, sizeof kinds);
+    memcpy(left->mapped, mapped, sizeof mapped);
+    memcpy(left->starts, starts, sizeof starts);
+    memcpy(left->lengths, lengths, sizeof lengths);
+    memcpy(left->addresses, addresses, sizeof addresses);
+    memcpy(left->words, words, sizeof words);
+    memcpy(left->hosts, hosts, sizeof hosts);
+}
+
+static int left_so(const struct left *left)
+{
+    return memcmp(left->kinds, kinds, sizeof kinds) == 0 && memcmp(left->mapped, mapped, sizeof mapped) == 0
+           && memcmp(left->starts, starts, sizeof starts) == 0 && memcmp(left->lengths, lengths, sizeof lengths) == 0
+           && memcmp(left->addresses, addresses, sizeof addresses) == 0 && memcmp(left->words, words, sizeof words) == 0
+           && memcmp(left->hosts, hosts, sizeof hosts) == 0;
+}
+
+static int same_assembly(ola_assembly a, ola_assembly b)
+{
+    return assembly_is(a, b.refusal, b.detail, b.labels, b.words, b.hosts, b.kept);
+}
+
+static ola_metered build(ola_meter meter, const char *source, const char *prophets, size_t entries, size_t word_room, size_t host_room)
+{
+    return ola_meter_build(meter, bytes(source), strlen(source), bytes(prophets), strlen(prophets), kinds, entries, mapped, entries,
+                           starts, entries, lengths, entries, addresses, entries, words, word_room, hosts, host_room);
+}
+
+/* A build on a meter of one total leaves it at the other, gives the answer and the words told, and leaves all that is lent as ola_assemble_parts does,
+   whatever `mapped` was before. */
+static int builds(uint64_t before, const char *source, const char *prophets, size_t entries, size_t word_room, size_t host_room,
+                  ola_assembly told, const uint64_t *emitted, uint64_t after)
+{
+    static struct left left;
+    const ola_meter meter = { .total = before };
+    int right = 1;
+    for (int set = 0; set < 2; set++) {
+        clear();
+        memset(mapped, set, sizeof mapped);
+        ola_assembly a = parts(source, strlen(source), prophets, entries, word_room, host_room);
+        keep(&left);
+        clear();
+        memset(mapped, set, sizeof mapped);
+        ola_metered m = build(meter, source, prophets, entries, word_room, host_room);
+        right = right && same_assembly(m.assembly, told) && same_assembly(m.assembly, a) && left_so(&left) && m.meter.total == after;
+        for (size_t i = 0; i < told.words; i++)
+            right = right && words[i] == emitted[i];
+        right = right && untouched(words + told.words, sizeof words - told.words * sizeof words[0])
+                && untouched(hosts + told.hosts, sizeof hosts - told.hosts * sizeof hosts[0])
+                && (told.refusal == 0 || told.refusal > 7 || table_untouched());
+    }
+    return right;
+}
+
+/* An accepted source. */
+static void meters(const char *what, uint64_t before, const char *source, const char *prophets, ola_assembly told, const uint64_t *emitted,
+                   uint64_t after)
+{
+    say(what, builds(before, source, prophets, ENTRIES, WORDS, HOSTS, told, emitted, after));
+}
+
+/* A source that is refused: the meter comes back as it was, at 0, elsewhere and at the stop. */
+static void meters_none(const char *what, const char *source, const char *prophets, size_t entries, size_t word_room, size_t host_room,
+                        uint64_t refusal, uint64_t detail)
+{
+    static const uint64_t totals[] = { 0, 1, 12, UINT64_MAX - 1, UINT64_MAX };
+    const ola_assembly told = { .refusal = refusal, .detail = detail };
+    int right = 1;
+    for (size_t i = 0; i < sizeof totals / sizeof totals[0]; i++)
+        right = right && builds(totals[i], source, prophets, entries, word_room, host_room, told, NULL, totals[i]);
+    say(what, right);
+}
+
+static const char JUMP_SOURCE[] = "main:\njmp 5";
+
+static const uint64_t JUMP[2] = { UINT64_C(0x4000000004000000), 5 };
+
+static void metering(void)
+{
+    static const uint64_t moved[1] = { UINT64_C(0x0000000208000000) }, returned[1] = { UINT64_C(0x0000000000800000) };
+    static const ola_assembly alone = { .labels = 1 }, jump = { .labels = 1, .words = 2 }, printing = { .labels = 3, .words = 6, .hosts = 1, .kept = 1 };
+    const char *listed = "label\n.PROPHET0_0";
+
+    say("meter_open: a total of 0", ola_meter_open().total == 0);
+    meters("meter_build: main alone adds 0 to 0", 0, "main:", "", alone, NULL, 0);
+    meters("meter_build: main alone adds 0 to 7", 7, "main:", "", alone, NULL, 7);
+    meters("meter_build: jmp 5 adds 2 to 0", 0, JUMP_SOURCE, "", jump, JUMP, 2);
+    meters("meter_build: jmp 5 adds 2 to 7", 7, JUMP_SOURCE, "", jump, JUMP, 9);
+    meters("meter_build: mov r1 [r2] adds the one word that is written, not the counted length of 2", 0, "main:\nmov r1 [r2]", "",
+           (ola_assembly){ .labels = 1, .words = 1 }, moved, 1);
+    meters("meter_build: a prophet that is listed twice has two hosts, and they are not counted", 0, "main:\n.PROPHET0_0:\nret",
+           "label\n.PROPHET0_0\n.PROPHET0_0", (ola_assembly){ .labels = 2, .words = 1, .hosts = 2, .kept = 1 }, returned, 1);
+    meters("meter_build: the printing source adds 6", 0, SOURCE, listed, printing, PRINTED, 6);
+    meters("meter_build: a meter that nobody opened", 1000000, SOURCE, listed, printing, PRINTED, 1000006);
+    say("meter_build: with just so much room as it takes", builds(12, SOURCE, listed, 3, 6, 1, printing, PRINTED, 18));
+
+    meters("meter_build: from 2^32 - 1 on", UINT64_C(0xFFFFFFFF), JUMP_SOURCE, "", jump, JUMP, UINT64_C(0x100000001));
+    meters("meter_build: from 2^63 - 1 on", UINT64_C(0x7FFFFFFFFFFFFFFF), JUMP_SOURCE, "", jump, JUMP, UINT64_C(0x8000000000000001));
+    meters("meter_build: 2^64 - 4 and 2 are 2^64 - 2", UINT64_MAX - 3, JUMP_SOURCE, "", jump, JUMP, UINT64_MAX - 1);
+    meters("meter_build: 2^64 - 3 and 2 are 2^64 - 1", UINT64_MAX - 2, JUMP_SOURCE, "", jump, JUMP, UINT64_MAX);
+    meters("meter_build: 2^64 - 2 and 2 stop at 2^64 - 1, and both words are written", UINT64_MAX - 1, JUMP_SOURCE, "", jump, JUMP, UINT64_MAX);
+    meters("meter_build: at 2^64 - 1 it stays, and both words are written", UINT64_MAX, JUMP_SOURCE, "", jump, JUMP, UINT64_MAX);
+    meters("meter_build: at 2^64 - 1 main alone", UINT64_MAX, "main:", "", alone, NULL, UINT64_MAX);
+
+    static char long_source[65537 + 1];
+    memset(long_source, ' ', 65537);
+    meters_none("meter_build: 1 for 65,537 bytes", long_source, "", ENTRIES, WORDS, HOSTS, 1, 0);
+    meters_none("meter_build: 2 with the offset of a byte above 127", "main:\nmov r1 \x80\n", "", ENTRIES, WORDS, HOSTS, 2, 13);
+    meters_none("meter_build: 3 with the rows before it", "main:\n\nmload\n", "", ENTRIES, WORDS, HOSTS, 3, 1);
+    meters_none("meter_build: 4 for the empty source", "", "", ENTRIES, WORDS, HOSTS, 4, 0);
+    meters_none("meter_build: 5 without main", "f:\nret\n", "", ENTRIES, WORDS, HOSTS, 5, 0);
+    meters_none("meter_build: 6 for two mains", "main:\nend\nmain:\nend\n", "", ENTRIES, WORDS, HOSTS, 6, 0);
+    meters_none("meter_build: 7 for no table entry", JUMP_SOURCE, "", 0, WORDS, HOSTS, 7, 0);
+    meters_none("meter_build: 8 for another first line", SOURCE, "labels\n", ENTRIES, WORDS, HOSTS, 8, 0);
+    meters_none("meter_build: 9 with the prophet's index", SOURCE, "label\n.PROPHET0_0\n.PROPHET0_1", ENTRIES, WORDS, HOSTS, 9, 1);
+    meters_none("meter_build: 10 with the instruction's index", "main:\nadd r1 5 r2\ncall g", "", ENTRIES, WORDS, HOSTS, 10, 1);
+    meters_none("meter_build: 11 for mload from a register", "main:\nmload r1 r2", "", ENTRIES, WORDS, HOSTS, 11, 0);
+    meters_none("meter_build: 12 for a number in op0", "main:\nadd r1 5 r2", "", ENTRIES, WORDS, HOSTS, 12, 0);
+    meters_none("meter_build: 13 for one word entry of two", JUMP_SOURCE, "", ENTRIES, 1, HOSTS, 13, 0);
+    meters_none("meter_build: 13 for few host entries", SOURCE, listed, ENTRIES, WORDS, 0, 13, 0);
+}
+
+/* Builds one after another: each takes the meter that the last one answered. */
+static void metering_a_history(void)
+{
+    static const struct { const char *source; uint64_t refusal, words, total; } history[] = {
+        { SOURCE, 0, 6, 6 },
+        { "main:\njmp g", 10, 0, 6 },
+        { "main:", 0, 0, 6 },
+        { SOURCE, 0, 6, 12 },
+    };
+    ola_meter meter = ola_meter_open();
+    int right = 1;
+    clear();
+    for (size_t i = 0; i < sizeof history / sizeof history[0]; i++) {
+        ola_metered m = build(meter, history[i].source, "", ENTRIES, WORDS, HOSTS);
+        right = right && m.assembly.refusal == history[i].refusal && m.assembly.detail == 0 && m.assembly.words == history[i].words
+                && m.meter.total == history[i].total;
+        meter = m.meter;
+    }
+    say("meter_build: the printing source, 10, main alone and the printing source: 12 words", right && meter.total == 12);
+    say("meter_open: after builds, a total of 0", ola_meter_open().total == 0);
+
+    ola_metered first = build(meter, JUMP_SOURCE, "", ENTRIES, WORDS, HOSTS), second = build(meter, JUMP_SOURCE, "", ENTRIES, WORDS, HOSTS);
+    say("meter_build: two builds on one meter answer the same, and count one",
+        assembly_is(first.assembly, 0, 0, 1, 2, 0, 0) && assembly_is(second.assembly, 0, 0, 1, 2, 0, 0) && first.meter.total == 14
+        && second.meter.total == 14);
+    ola_assembly a = parts(SOURCE, strlen(SOURCE), "", ENTRIES, WORDS, HOSTS);
+    ola_metered third = build(second.meter, JUMP_SOURCE, "", ENTRIES, WORDS, HOSTS);
+    say("meter_build: what ola_assemble_parts builds is not counted", assembly_is(a, 0, 0, 3, 6, 0, 0) && third.meter.total == 16);
 }
 
 static void naming(void)
@@ -449,6 +619,18 @@ static void longest(void)
     for (size_t i = 0; i < JUMPS; i++)
         right = right && many[2 * i] == UINT64_C(0x4000000004000000) && many[2 * i + 1] == 1;
     say("assemble_parts: 10,921 jumps in 65,532 bytes", right);
+    static const uint64_t before[] = { 0, UINT64_MAX - 2 * JUMPS, UINT64_MAX - 2 * JUMPS + 1 }, after[] = { 2 * JUMPS, UINT64_MAX, UINT64_MAX };
+    right = 1;
+    for (size_t k = 0; k < 3; k++) {
+        const ola_meter meter = { .total = before[k] };
+        memset(many, MARK, sizeof many);
+        ola_metered m = ola_meter_build(meter, source, length, bytes(""), 0, kinds, ENTRIES, mapped, ENTRIES, starts, ENTRIES, lengths, ENTRIES,
+                                        addresses, ENTRIES, many, 2 * JUMPS, hosts, HOSTS);
+        right = right && assembly_is(m.assembly, 0, 0, 1, 2 * JUMPS, 0, 0) && m.meter.total == after[k];
+        for (size_t i = 0; i < JUMPS; i++)
+            right = right && many[2 * i] == UINT64_C(0x4000000004000000) && many[2 * i + 1] == 1;
+    }
+    say("meter_build: 10,921 jumps are 21,842 words: from 0, just up to 2^64 - 1, and past it", right);
     ola_written w = ola_write_bytecode(many, 2 * JUMPS, text, sizeof text);
     say("write_bytecode: their text, 23 bytes a jump but for the last line feed", w.refusal == 0 && w.written == JUMPS * 23 - 1);
     say("open: that text", opened_is(ola_open(text, w.written), 0, 0));
@@ -473,6 +655,8 @@ int main(void)
     assembling();
     assembling_entries();
     telling_room();
+    metering();
+    metering_a_history();
     naming();
     writing_and_opening();
     reading();

@@ -69,6 +69,21 @@ static void assemble_parts(void)
     parts();
 }
 
+static void meter_open(void)
+{
+    ola_meter_open();
+}
+
+/* From 0, and from where the words pass the stop. */
+static void meter_build(void)
+{
+    for (unsigned full = 0; full < 2; full++) {
+        ola_meter meter = { .total = full ? UINT64_MAX : 0 };
+        ola_meter_build(meter, shared->source, SOURCE, shared->prophets, PROPHETS, kinds, ENTRIES, mapped, ENTRIES, starts, ENTRIES,
+                        lengths, ENTRIES, addresses, ENTRIES, words, WORDS, hosts, HOSTS);
+    }
+}
+
 static void label_name(void)
 {
     ola_label entry = { .kind = 0, .mapped = true, .start = 0, .length = SOURCE, .address = 0 };
@@ -143,6 +158,8 @@ static const struct { const char *name; void (*calls)(void); size_t figure; } FU
     { "ola_room_of", room_of, OLA_STACK_OTHER },
     { "ola_assemble", assemble, OLA_STACK_ASSEMBLE },
     { "ola_assemble_parts", assemble_parts, OLA_STACK_ASSEMBLE_PARTS },
+    { "ola_meter_open", meter_open, OLA_STACK_OTHER },
+    { "ola_meter_build", meter_build, OLA_STACK_ASSEMBLE_PARTS },
     { "ola_label_name", label_name, OLA_STACK_OTHER },
     { "ola_write_bytecode", write_bytecode, OLA_STACK_OTHER },
     { "ola_open", open_text, OLA_STACK_OTHER },
