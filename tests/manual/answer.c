@@ -1,6 +1,7 @@
 /* Answers calls of include/ola.h that tests/manual/check asks for, one a line on standard input, in words and numbers on standard output. Texts are
    hexadecimal, `-` where empty. Every lent buffer is filled with a mark first and has entries past its end; a line `fault` says what was touched that
-   should not be, and where the two forms of assembling, the room told and the build, or the two ways of reading on, do not agree. */
+   should not be, and where the two forms of assembling, the room told and the build, a build on a meter and one without, or the two ways of reading on, do
+   not agree. */
 #include <inttypes.h>
 #include <stdio.h>
 #include <stdlib.h>
@@ -85,16 +86,63 @@ static void put_numbers(const char *what, const uint64_t *list, uint64_t count)
     printf("\n");
 }
 
-/* A source and a prophet list, and what assembling them by ola_assemble_parts wrote. */
+/* A source and a prophet list, what is lent for them, and what assembling them by ola_assemble_parts answered and wrote. */
 struct build {
     uint8_t *source, *list;
-    size_t source_len, list_len, host_room, filled;
+    size_t source_len, list_len, entries, word_room, host_room, filled;
     ola_assembly told;
     uint8_t *kinds;
     bool *mapped;
     size_t *starts, *lengths;
     uint64_t *addresses, *words, *hosts;
 };
+
+/* A bool has no mark: they are false and true by turns. */
+static void mark_mapped(const struct build *b)
+{
+    for (size_t i = 0; i < b->entries; i++)
+        b->mapped[i] = i % 2;
+}
+
+static void lend(struct build *b)
+{
+    b->kinds = lent(b->entries, 1);
+    b->mapped = lent(b->entries, sizeof *b->mapped);
+    mark_mapped(b);
+    b->starts = lent(b->entries, sizeof *b->starts);
+    b->lengths = lent(b->entries, sizeof *b->lengths);
+    b->addresses = lent(b->entries, sizeof *b->addresses);
+    b->words = lent(b->word_room, sizeof *b->words);
+    b->hosts = lent(b->host_room, sizeof *b->hosts);
+}
+
+/* A buffer that is lent, with the bytes past its end. */
+struct buffer {
+    void *start;
+    size_t size;
+};
+
+#define BUFFERS 7
+
+static void buffers(const struct build *b, struct buffer list[BUFFERS])
+{
+    size_t entries = b->entries + PAST;
+    list[0] = (struct buffer){b->kinds, entries};
+    list[1] = (struct buffer){b->mapped, entries * sizeof *b->mapped};
+    list[2] = (struct buffer){b->starts, entries * sizeof *b->starts};
+    list[3] = (struct buffer){b->lengths, entries * sizeof *b->lengths};
+    list[4] = (struct buffer){b->addresses, entries * sizeof *b->addresses};
+    list[5] = (struct buffer){b->words, (b->word_room + PAST) * sizeof *b->words};
+    list[6] = (struct buffer){b->hosts, (b->host_room + PAST) * sizeof *b->hosts};
+}
+
+static void release(const struct build *b)
+{
+    struct buffer list[BUFFERS];
+    buffers(b, list);
+    for (size_t i = 0; i < BUFFERS; i++)
+        free(list[i].start);
+}
 
 /* Whether ola_assemble answers and writes the same, with so many entries and words. */
 static int again(const struct build *b, size_t entries, size_t word_room)
@@ -128,8 +176,8 @@ static uint64_t first_words(const uint64_t *words, uint64_t count)
     return firsts;
 }
 
-/* What ola_room_of tells of the source, beside what assembling answered with so much room. */
-static void beside_room(const struct build *b, size_t entries, size_t word_room)
+/* What ola_room_of tells of the source, beside what assembling answered. */
+static void beside_room(const struct build *b)
 {
     ola_room r = ola_room_of(b->source, b->source_len);
     ola_assembly a = b->told;
@@ -138,14 +186,51 @@ static void beside_room(const struct build *b, size_t entries, size_t word_room)
             printf("fault ola_room_of refuses otherwise than assembling\n");
         return;
     }
-    if ((a.refusal == 7) != (entries < r.labels) || (a.refusal != 7 && b->filled != r.labels)) {
+    if ((a.refusal == 7) != (b->entries < r.labels) || (a.refusal != 7 && b->filled != r.labels)) {
         printf("fault the figures' label rows are not those of the table\n");
         return;
     }
     if (!a.refusal && (r.words != a.words || r.instructions != first_words(b->words, a.words) || r.words > r.counted))
         printf("fault the figures are not those of the words\n");
-    if (entries >= r.labels && word_room >= r.words && !again(b, r.labels, r.words))
+    if (b->entries >= r.labels && b->word_room >= r.words && !again(b, r.labels, r.words))
         printf("fault with just so much room as the figures tell, assembling answers otherwise\n");
+}
+
+/* The total after a build on a meter that has this one before: the words of an accepted build are added, up to 2^64 - 1. All else is as assembling without a
+   meter answers and leaves it, past the ends of what is lent too. What is lent stands in `m`. */
+static uint64_t on_meter(const struct build *b, const struct build *m, uint64_t total)
+{
+    struct buffer without[BUFFERS], with[BUFFERS];
+    buffers(b, without);
+    buffers(m, with);
+    for (size_t i = 0; i < BUFFERS; i++)
+        memset(with[i].start, MARK, with[i].size);
+    mark_mapped(m);
+    ola_meter meter = {total};
+    ola_metered answered = ola_meter_build(meter, m->source, m->source_len, m->list, m->list_len, m->kinds, m->entries, m->mapped, m->entries, m->starts,
+                                           m->entries, m->lengths, m->entries, m->addresses, m->entries, m->words, m->word_room, m->hosts, m->host_room);
+    if (memcmp(&answered.assembly, &b->told, sizeof b->told))
+        printf("fault on a meter of %" PRIu64 " assembling answers otherwise\n", total);
+    for (size_t i = 0; i < BUFFERS; i++)
+        if (memcmp(with[i].start, without[i].start, with[i].size))
+            printf("fault on a meter of %" PRIu64 " assembling leaves buffer %zu otherwise\n", total, i);
+    uint64_t added = b->told.refusal ? 0 : b->told.words;
+    if (answered.meter.total != (added < UINT64_MAX - total ? total + added : UINT64_MAX))
+        printf("fault %" PRIu64 " words on a meter of %" PRIu64 " give a total of %" PRIu64 "\n", added, total, answered.meter.total);
+    return answered.meter.total;
+}
+
+/* Builds on meters: from 0, from where the words just fit, and from the last two totals; where one is given, from that one, and its total is told. */
+static void beside_meters(const struct build *b, const char *given)
+{
+    const uint64_t totals[] = {0, UINT64_MAX - b->told.words, UINT64_MAX - 1, UINT64_MAX};
+    struct build m = *b;
+    lend(&m);
+    for (size_t i = 0; i < sizeof totals / sizeof totals[0]; i++)
+        on_meter(b, &m, totals[i]);
+    if (*given)
+        printf("total %" PRIu64 "\n", on_meter(b, &m, strtoull(given, NULL, 0)));
+    release(&m);
 }
 
 static void assemble(void)
@@ -153,20 +238,15 @@ static void assemble(void)
     struct build b;
     b.source = text(&b.source_len);
     b.list = text(&b.list_len);
-    size_t entries = number(), word_room = number();
+    b.entries = number();
+    b.word_room = number();
     b.host_room = number();
-    b.kinds = lent(entries, 1);
-    b.mapped = lent(entries, sizeof *b.mapped);
-    memset(b.mapped, 0, entries * sizeof *b.mapped);
-    b.starts = lent(entries, sizeof *b.starts);
-    b.lengths = lent(entries, sizeof *b.lengths);
-    b.addresses = lent(entries, sizeof *b.addresses);
-    b.words = lent(word_room, sizeof *b.words);
-    b.hosts = lent(b.host_room, sizeof *b.hosts);
-    ola_assembly a = b.told = ola_assemble_parts(b.source, b.source_len, b.list, b.list_len, b.kinds, entries, b.mapped, entries, b.starts, entries,
-                                                 b.lengths, entries, b.addresses, entries, b.words, word_room, b.hosts, b.host_room);
+    const char *meter = word();
+    lend(&b);
+    ola_assembly a = b.told = ola_assemble_parts(b.source, b.source_len, b.list, b.list_len, b.kinds, b.entries, b.mapped, b.entries, b.starts, b.entries,
+                                                 b.lengths, b.entries, b.addresses, b.entries, b.words, b.word_room, b.hosts, b.host_room);
     size_t filled = 0;
-    while (filled < entries && b.kinds[filled] != MARK)
+    while (filled < b.entries && b.kinds[filled] != MARK)
         filled += 1;
     b.filled = filled;
     printf("assembled %" PRIu64 " %" PRIu64 " %" PRIu64 " %" PRIu64 "\n", a.refusal, a.detail, a.labels, a.kept);
@@ -174,21 +254,27 @@ static void assemble(void)
     put_numbers("hosts", b.hosts, a.hosts);
     for (size_t i = 0; i < filled; i++)
         printf("entry %u %d %zu %zu %" PRIu64 "\n", b.kinds[i], b.mapped[i], b.starts[i], b.lengths[i], b.addresses[i]);
-    untouched("the kinds", b.kinds, filled, entries, 1);
-    untouched("the starts", b.starts, filled, entries, sizeof *b.starts);
-    untouched("the lengths", b.lengths, filled, entries, sizeof *b.lengths);
-    untouched("the addresses", b.addresses, filled, entries, sizeof *b.addresses);
-    untouched("the words", b.words, a.words, word_room, sizeof *b.words);
+    untouched("the kinds", b.kinds, filled, b.entries, 1);
+    for (size_t i = filled; i < b.entries; i++)
+        if (b.mapped[i] != i % 2)
+            printf("fault the mapped are touched at entry %zu\n", i);
+    untouched("what is past the mapped", b.mapped, b.entries, b.entries, sizeof *b.mapped);
+    untouched("the starts", b.starts, filled, b.entries, sizeof *b.starts);
+    untouched("the lengths", b.lengths, filled, b.entries, sizeof *b.lengths);
+    untouched("the addresses", b.addresses, filled, b.entries, sizeof *b.addresses);
+    untouched("the words", b.words, a.words, b.word_room, sizeof *b.words);
     untouched("the hosts", b.hosts, a.hosts, b.host_room, sizeof *b.hosts);
     if (a.refusal && a.refusal <= 7 && filled)
         printf("fault refusal %" PRIu64 " filled the table\n", a.refusal);
     if (!a.refusal && a.labels != filled)
         printf("fault %" PRIu64 " entries told, %zu filled\n", a.labels, filled);
-    if (!again(&b, entries, word_room))
+    if (!again(&b, b.entries, b.word_room))
         printf("fault ola_assemble and ola_assemble_parts do not agree\n");
-    beside_room(&b, entries, word_room);
-    for (void **p = (void *[]){b.source, b.list, b.kinds, b.mapped, b.starts, b.lengths, b.addresses, b.words, b.hosts, NULL}; *p; p++)
-        free(*p);
+    beside_room(&b);
+    beside_meters(&b, meter);
+    release(&b);
+    free(b.source);
+    free(b.list);
 }
 
 static void put_written(const char *what, ola_written w, uint8_t *buffer, size_t room)
@@ -267,6 +353,8 @@ static void answer(const char *what)
 {
     if (!strcmp(what, "assemble")) {
         assemble();
+    } else if (!strcmp(what, "meter")) {
+        printf("meter %" PRIu64 "\n", ola_meter_open().total);
     } else if (!strcmp(what, "write")) {
         size_t room = number(), count = number();
         uint64_t *words = malloc((count + 1) * sizeof *words);
