@@ -1,4 +1,5 @@
 //! One case on both sides: the Rust's answer, that of documents 01 and 02 where it departs or does not tell, and the port's.
+use crate::meter::{self, Build, Meters};
 use crate::paper::{self, Respelt, ORDER};
 use crate::port::{self, Assembly, Encoding, Figures, Label, Lent, Name, NumberedInstruction, NumberedPlace, Opened, Room, Step, Written};
 use oracle::{Answer, Assembled, Instruction, Place};
@@ -25,6 +26,8 @@ pub enum Expected {
     Text(String),
     Refused(u64, u64),
     Room(Figures),
+    /// Builds one after another on a meter that begins at a total.
+    Builds(u64, Vec<Build>),
 }
 
 /// How many source cases there were; of how many the Rust told the figures and of how many the papers alone; of how many the Rust was asked for the counted
@@ -67,15 +70,16 @@ pub struct Checker {
     every: u64,
     pub rooms: Rooms,
     pub respellings: Respellings,
+    pub meters: Meters,
     /// How often each answer came: what was asked, and the refusal, 0 for acceptance.
     pub answers: BTreeMap<(&'static str, u64), u64>,
     /// Whether the Rust accepted the case.
     pub accepted: bool,
 }
 
-type Outcome = Result<(), String>;
+pub type Outcome = Result<(), String>;
 
-fn same<T: PartialEq + Debug>(what: &str, expected: &T, got: &T) -> Outcome {
+pub fn same<T: PartialEq + Debug>(what: &str, expected: &T, got: &T) -> Outcome {
     if expected == got {
         return Ok(());
     }
@@ -83,7 +87,7 @@ fn same<T: PartialEq + Debug>(what: &str, expected: &T, got: &T) -> Outcome {
 }
 
 /// The paper and the Rust, which the port has no part in.
-fn agreed<T: PartialEq + Debug>(what: &str, paper: &T, rust: &T) -> Outcome {
+pub fn agreed<T: PartialEq + Debug>(what: &str, paper: &T, rust: &T) -> Outcome {
     if paper == rust {
         return Ok(());
     }
@@ -117,6 +121,28 @@ fn refusal<T>(answer: &Answer<T>) -> u64 {
     }
 }
 
+/// A room that is tried, and what is expected there: the answer and what is left in the lent buffers.
+pub struct Tried {
+    pub room: Room,
+    pub answer: Assembly,
+    left: Lent,
+}
+
+impl Tried {
+    /// Whether a build by parts gave this answer and left this, past the ends too.
+    pub fn same(&self, by: &str, got: &Assembly, lent: &Lent) -> Outcome {
+        let what = |part: &str| format!("{part} of {by}, {:?}", self.room);
+        same(&what("answer"), &self.answer, got)?;
+        same_list(&what("kinds"), &self.left.kinds, &lent.kinds)?;
+        same_list(&what("mapped"), &self.left.mapped, &lent.mapped)?;
+        same_list(&what("starts"), &self.left.starts, &lent.starts)?;
+        same_list(&what("lengths"), &self.left.lengths, &lent.lengths)?;
+        same_list(&what("addresses"), &self.left.addresses, &lent.addresses)?;
+        same_list(&what("words"), &self.left.words, &lent.words)?;
+        same_list(&what("hosts"), &self.left.hosts, &lent.hosts)
+    }
+}
+
 /// What is expected of a source: refusals 1 to 6, its figures, the label table, refusals 8 to 12, and else words and hosts.
 struct Told {
     untabled: Option<(u64, u64)>,
@@ -143,6 +169,11 @@ impl Told {
             kept: 0,
             bytecode: String::new(),
         }
+    }
+
+    fn tried(&self, room: Room) -> Tried {
+        let (answer, left) = self.expected(&room);
+        Tried { room, answer, left }
     }
 
     /// The answer and what is left in the lent buffers.
@@ -230,8 +261,9 @@ fn counted(source: &str) -> Result<Option<u64>, String> {
 }
 
 impl Checker {
-    pub fn new(dry: bool, every: u64) -> Checker {
-        Checker { dry, every, rooms: Rooms::default(), respellings: Respellings::default(), answers: BTreeMap::new(), accepted: false }
+    pub fn new(dry: bool, every: u64, near_every: u64) -> Checker {
+        let meters = Meters::new(dry, near_every);
+        Checker { dry, every, rooms: Rooms::default(), respellings: Respellings::default(), meters, answers: BTreeMap::new(), accepted: false }
     }
 
     fn tally(&mut self, what: &'static str, number: u64) {
@@ -262,13 +294,19 @@ impl Checker {
             Expected::Hosts(hosts) => agreed("hosts", hosts, &told.hosts)?,
             Expected::Refused(number, detail) => agreed("refusal", &Some((*number, *detail)), &told.untabled.or(told.refused))?,
             Expected::Room(figures) => agreed("room", figures, &told.figures)?,
+            Expected::Builds(from, builds) => {
+                let builds: Vec<(&Build, Tried)> = builds.iter().map(|build| (build, told.tried(build.room))).collect();
+                meter::named(source, prophets, *from, &builds, self.dry)?;
+            }
             Expected::Rows(_) | Expected::Text(_) | Expected::Nothing => {}
         }
         if let Some(room) = room {
             same("room_of", &told.figures, &room)?;
-            for room in told.rooms(source) {
-                self.room(source, prophets, &told, &room)?;
+            let rooms: Vec<Tried> = told.rooms(source).into_iter().map(|room| told.tried(room)).collect();
+            for tried in &rooms {
+                self.room(source, prophets, tried)?;
             }
+            self.meters.source(source, prophets, &rooms)?;
             self.names(source, &told.entries)?;
         }
         if told.untabled.is_none() && told.refused.is_none() {
@@ -364,23 +402,14 @@ impl Checker {
         Ok(figures)
     }
 
-    fn room(&mut self, source: &[u8], prophets: &[u8], told: &Told, room: &Room) -> Outcome {
-        let (answer, left) = told.expected(room);
-        let mut lent = Lent::new(room);
-        let got = port::assemble_parts(source, prophets, room, &mut lent);
-        let what = |part: &str| format!("{part}, {room:?}");
-        same(&what("assemble_parts"), &answer, &got)?;
-        same_list(&what("kinds"), &left.kinds, &lent.kinds)?;
-        same_list(&what("mapped"), &left.mapped, &lent.mapped)?;
-        same_list(&what("starts"), &left.starts, &lent.starts)?;
-        same_list(&what("lengths"), &left.lengths, &lent.lengths)?;
-        same_list(&what("addresses"), &left.addresses, &lent.addresses)?;
-        same_list(&what("words"), &left.words, &lent.words)?;
-        same_list(&what("hosts"), &left.hosts, &lent.hosts)?;
-        self.table(source, prophets, room, &answer, &left)
+    fn room(&mut self, source: &[u8], prophets: &[u8], tried: &Tried) -> Outcome {
+        let mut lent = Lent::new(&tried.room);
+        let got = port::assemble_parts(source, prophets, &tried.room, &mut lent);
+        tried.same("assemble_parts", &got, &lent)?;
+        self.table(source, prophets, tried)
     }
 
-    fn table(&mut self, source: &[u8], prophets: &[u8], room: &Room, answer: &Assembly, left: &Lent) -> Outcome {
+    fn table(&mut self, source: &[u8], prophets: &[u8], Tried { room, answer, left }: &Tried) -> Outcome {
         let mut lent = Lent::new(room);
         let got = port::assemble(source, prophets, room, &mut lent);
         let what = |part: &str| format!("{part} of assemble, {room:?}");

@@ -2,16 +2,21 @@
 //! instructions read, listing rows, encodings, the room of a source, and what is left in every lent buffer, past its end too. Where document 01 departs from
 //! the Rust, or 01 or 02 says what the Rust does not tell, paper.rs takes the Rust's place. A source with an operand that looks like a label and has no dot is
 //! outside the comparison as it stands, by document 02's Point 2: the port gets it as it is, the Rust respelt, and such sources are counted apart.
+//! One build meter is carried through the whole run: every source is built on it in every room that is tried, and its total is to be the sum of the words that
+//! the Rust gives for what is accepted. One source in fifty also begins at a meter of 2^64 - 1 - k, for each k from 0 to 3 (meter.rs).
 //!   compare [COUNT] [SEED]      default 20000 and 1
 //! First the cases of the papers and, from the file that MANUAL names, the manual's examples, then the whole lists (of a small count every so-many-th of them,
 //! at most half of the count), then random cases.
 //! With DRY=1 only the Rust runs. With TRACE=1 each case is printed before it runs.
 //! Exit status: 0 no difference; 1 a difference, a function of the port that was never called, a source whose room was not asked for, the Rust never asked
-//! for a counted length, or no respelt source with a name, with an unreadable operand, or accepted.
+//! for a counted length, no respelt source with a name, with an unreadable operand, or accepted, a source that was not built on the meter, or none that began
+//! near the stop, came to just 2^64 - 1, or was stopped there.
 mod check;
 mod generate;
+mod limits;
 mod lists;
 mod manual;
+mod meter;
 mod named;
 mod paper;
 mod port;
@@ -20,6 +25,7 @@ mod shrink;
 
 use check::{Case, Checker, Expected, Respellings, Rooms};
 use generate::{GENERATORS, LARGE_EVERY};
+use meter::Metering;
 use random::Random;
 use std::panic::{catch_unwind, AssertUnwindSafe};
 use std::sync::atomic::Ordering::Relaxed;
@@ -28,6 +34,8 @@ use std::sync::atomic::Ordering::Relaxed;
 const PRINTED: usize = 20;
 /// Of one in so many of the sources that it accepts the Rust is asked for the counted length.
 const COUNTED_EVERY: u64 = 8;
+/// One in so many sources is also built on meters near their stop.
+const NEAR_EVERY: u64 = 50;
 
 struct Run {
     checker: Checker,
@@ -153,6 +161,10 @@ impl Run {
         let Respellings { names, accepted, unreadable, both } = self.checker.respellings;
         println!("Sources with operands that look like labels and have no dot, which the Rust was asked about respelt: {}", names + unreadable + both);
         println!("  with names alone: {names} ({accepted} accepted), with unreadable ones alone: {unreadable}, with both: {both}");
+        let Metering { sources, builds, accepted, near, exact, stopped } = self.checker.meters.counts;
+        let (total, sum) = self.checker.meters.carried();
+        println!("The build meter: {builds} builds of {sources} sources, {accepted} accepted; its total {total}, the sum of the Rust's words {sum}");
+        println!("  from 2^64 - 1 - k, k from 0 to 3: {near} sources, of which {exact} came to just 2^64 - 1 and {stopped} were stopped there");
         println!("Calls of the port:");
         for (name, calls) in &port::CALLS {
             println!("  {name}  {}", calls.load(Relaxed));
@@ -161,12 +173,14 @@ impl Run {
     }
 
     /// Whether something was not asked that was to be compared: a function of the port, the room of a source, a counted length of the Rust, a respelt source
-    /// of each sort, one that it accepts.
+    /// of each sort, one that it accepts, a source on the meter, one near its stop of each sort.
     fn left_out(&self) -> bool {
         let Rooms { sources, counted, .. } = self.checker.rooms;
         let Respellings { accepted, unreadable, .. } = self.checker.respellings;
+        let Metering { sources: built, builds, near, exact, stopped, .. } = self.checker.meters.counts;
         let called = port::CALLS.iter().all(|(_, calls)| calls.load(Relaxed) > 0) && port::room_calls() >= sources;
-        counted == 0 || accepted == 0 || unreadable == 0 || !self.checker.dry && !called
+        let metered = builds > 0 && built >= sources && near > 0 && exact > 0 && stopped > 0;
+        counted == 0 || accepted == 0 || unreadable == 0 || !self.checker.dry && !(called && metered)
     }
 }
 
@@ -176,7 +190,7 @@ fn main() {
     let seed = arguments.get(1).copied().unwrap_or(1);
     let set = |name: &str| std::env::var(name).is_ok_and(|value| value == "1");
     oracle::silence();
-    let mut run = Run { checker: Checker::new(set("DRY"), COUNTED_EVERY), trace: set("TRACE"), cases: 0, differences: 0, counts: vec![] };
+    let mut run = Run { checker: Checker::new(set("DRY"), COUNTED_EVERY, NEAR_EVERY), trace: set("TRACE"), cases: 0, differences: 0, counts: vec![] };
     run.named();
     if let Ok(path) = std::env::var("MANUAL") {
         run.manual(&path);

@@ -1,7 +1,9 @@
-//! The cases of document 01, of document 02's Points 1 and 2 and of the readings of them, with what the papers say of them.
+//! The cases of document 01, of document 02's Points 1 to 3 and of the readings of them, with what the papers say of them.
 use crate::check::{Case, Expected};
+use crate::limits::limits;
+use crate::meter::{Build, STOP};
 use crate::paper::ORDER;
-use crate::port::Figures;
+use crate::port::{Figures, Room};
 use oracle::{Instruction, Place};
 
 pub struct Named {
@@ -10,15 +12,15 @@ pub struct Named {
     pub expected: Expected,
 }
 
-fn source(name: &'static str, source: &str, expected: Expected) -> Named {
+pub fn source(name: &'static str, source: &str, expected: Expected) -> Named {
     listed(name, source, "", expected)
 }
 
-fn listed(name: &'static str, source: &str, prophets: &str, expected: Expected) -> Named {
+pub fn listed(name: &'static str, source: &str, prophets: &str, expected: Expected) -> Named {
     Named { name, case: Case::Source { source: source.into(), prophets: prophets.into() }, expected }
 }
 
-fn bytecode(name: &'static str, text: &str, expected: Expected) -> Named {
+pub fn bytecode(name: &'static str, text: &str, expected: Expected) -> Named {
     Named { name, case: Case::Bytecode(text.into()), expected }
 }
 
@@ -26,7 +28,7 @@ fn instruction(name: &'static str, opcode: u8, op0: Place, op1: Place, dst: Plac
     Named { name, case: Case::Instruction(Instruction { opcode, op0, op1, dst }), expected }
 }
 
-fn words(list: &[u64]) -> Expected {
+pub fn words(list: &[u64]) -> Expected {
     Expected::Words(list.to_vec())
 }
 
@@ -34,20 +36,26 @@ fn rows(list: &[&str]) -> Expected {
     Expected::Rows(list.iter().map(|row| row.to_string()).collect())
 }
 
-fn hosts(list: &[u64]) -> Expected {
+pub fn hosts(list: &[u64]) -> Expected {
     Expected::Hosts(list.to_vec())
 }
 
-fn refused(number: u64, detail: u64) -> Expected {
+pub fn refused(number: u64, detail: u64) -> Expected {
     Expected::Refused(number, detail)
 }
 
-fn room(labels: u64, instructions: u64, counted: u64, words: u64) -> Expected {
+pub fn room(labels: u64, instructions: u64, counted: u64, words: u64) -> Expected {
     Expected::Room(Figures { refusal: 0, detail: 0, labels, instructions, counted, words })
 }
 
 fn no_room(refusal: u64, detail: u64) -> Expected {
     Expected::Room(Figures { refusal, detail, labels: 0, instructions: 0, counted: 0, words: 0 })
+}
+
+/// Builds one after another on a meter that begins at a total: of each the table entries, words and hosts lent, the refusal, and the total after it.
+fn metered(from: u64, builds: &[([usize; 3], u64, u64)]) -> Expected {
+    let room = |[entries, words, hosts]: [usize; 3]| Room { columns: [entries; 5], words, hosts };
+    Expected::Builds(from, builds.iter().map(|(lent, refusal, total)| Build { room: room(*lent), refusal: *refusal, total: *total }).collect())
 }
 
 pub fn all() -> Vec<Named> {
@@ -57,6 +65,7 @@ pub fn all() -> Vec<Named> {
         refusals(),
         rooms(),
         names_like_labels(),
+        builds(),
         reading_sources(),
         reading_lists(),
         reading_bytecodes(),
@@ -69,7 +78,7 @@ pub fn all() -> Vec<Named> {
 }
 
 /// A row of main, its words.
-fn row(name: &'static str, text: &str, expected: Expected) -> Named {
+pub fn row(name: &'static str, text: &str, expected: Expected) -> Named {
     source(name, &format!("main:\n{text}"), expected)
 }
 
@@ -189,7 +198,7 @@ fn rooms() -> Vec<Named> {
 
 // ---- document 02, Point 2
 
-const CALL: u64 = 0x4000000001000000;
+pub const CALL: u64 = 0x4000000001000000;
 
 fn names_like_labels() -> Vec<Named> {
     let called = |name: &'static str, spelt: &str| row(name, &format!("call {spelt}\n{spelt}:\nret"), words(&[CALL, 2, 0x800000]));
@@ -218,6 +227,30 @@ fn names_like_labels() -> Vec<Named> {
         row("Point 2, two dots", "jmp ..LBL1_2", refused(3, 1)),
         row("Point 2, two names and a label", three, words(&[CALL, 7, CALL, 6, 0x4000000004000000, 0, 0x800000, 0x100000])),
         row("Point 2, another name's row", "call xLBL1_2\nxaaa1_2:\nret", refused(10, 0)),
+    ]
+}
+
+// ---- document 02, Point 3
+
+fn builds() -> Vec<Named> {
+    let twice = |name: &'static str, expected: Expected| listed(name, "main:\n.PROPHET0_0:\nret", "label\n.PROPHET0_0\n.PROPHET0_0", expected);
+    let full = [1, 2, 0];
+    vec![
+        source("meter, main alone", "main:", metered(0, &[([1, 0, 0], 0, 0)])),
+        row("meter, two words", "jmp 5", metered(0, &[(full, 0, 2)])),
+        row("meter, which two", "jmp 5", words(&[0x4000000004000000, 5])),
+        row("meter, one word entry", "jmp 5", metered(0, &[([1, 1, 0], 13, 0)])),
+        row("meter, no table entry", "jmp 5", metered(0, &[([0, 2, 0], 7, 0)])),
+        row("meter, the emitted word, not the counted 2", "mov r1 [r2]", metered(0, &[([1, 2, 0], 0, 1)])),
+        twice("meter, hosts do not count", metered(0, &[([2, 1, 2], 0, 1)])),
+        twice("meter, one host entry", metered(0, &[([2, 1, 1], 13, 0)])),
+        row("meter, stopped, and again", "jmp 5", metered(STOP - 1, &[(full, 0, STOP), (full, 0, STOP)])),
+        row("meter, 2^64 - 1 exactly, and again", "jmp 5", metered(STOP - 2, &[(full, 0, STOP), (full, 0, STOP)])),
+        source("meter, no word at the stop", "main:", metered(STOP, &[([1, 0, 0], 0, STOP)])),
+        row("meter, refused near the stop", "jmp 5", metered(STOP - 1, &[([1, 1, 0], 13, STOP - 1), ([0, 2, 0], 7, STOP - 1)])),
+        row("meter, one after another", "jmp 5", metered(0, &[(full, 0, 2), ([1, 1, 0], 13, 2), ([0, 0, 0], 7, 2), ([9, 9, 9], 0, 4)])),
+        row("meter, an unreadable row", "x", metered(7, &[(full, 3, 7)])),
+        row("meter, an unknown name", "call g", metered(7, &[(full, 10, 7)])),
     ]
 }
 
@@ -352,49 +385,5 @@ fn reading_instructions() -> Vec<Named> {
         instruction("01, mstore listed", 10, Register(1), Factor(2, 3), Register(4), Expected::Text("mstore [r1+0x3*r2] r4".to_string())),
         instruction("01, range listed", 12, Empty, Register(0), Empty, Expected::Text("range r0".to_string())),
         instruction("01, log listed", 26, Register(0), Number(0), Empty, Expected::Text("log r0 0x0".to_string())),
-    ]
-}
-
-// ---- limits
-
-/// A text of so many bytes, filled with comment.
-fn filled(text: &str, size: usize) -> String {
-    let mut text = format!("{text};");
-    text.extend(std::iter::repeat('x').take(size - text.len()));
-    text
-}
-
-fn limits() -> Vec<Named> {
-    let host = "main:\n.PROPHET0_0:\nend";
-    let list = |size: usize| {
-        let mut list = "label".to_string();
-        while list.len() + 12 <= size {
-            list.push_str("\n.PROPHET0_0");
-        }
-        list.extend(std::iter::repeat('\n').take(size - list.len()));
-        list
-    };
-    let ends = |size: usize| "end\n".repeat(size / 4);
-    let like_label = |n: u64| format!("{}LBL{n}_0", ["x", "r", "L", "_"][n as usize % 4]);
-    let calls: String = (0..2_000).map(|n| format!("{0}:\ncall {0}\n", like_label(n))).collect();
-    let code = |size: usize| format!("{}{}", "0x0000000000800000\n".repeat(size / 19 - 1), "0".repeat(size % 19 + 19 - 6) + "800000");
-    vec![
-        source("65,536 bytes", &filled("main:\nend", 65_536), words(&[0x0000000000100000])),
-        source("65,537 bytes", &filled("main:\nend", 65_537), refused(1, 0)),
-        source("65,534 bytes of rows", &format!("main:\n\n\n\n\n{}", ends(65_526)), room(1, 16_381, 16_381, 16_381)),
-        source("as many words as fit", &format!("main:\n{}end", "jmp 1\n".repeat(10_921)), room(1, 10_922, 21_843, 21_843)),
-        source("as many label rows as fit", &format!("main:\n{}", "b:\n".repeat(21_843)), words(&[])),
-        source("as many label rows as fit, mapped", &format!("main:\n{}end", "b:\n".repeat(21_842)), words(&[0x0000000000100000])),
-        source("labels and jumps", &format!("main:\na:\n{}{}", "b:\n".repeat(3_000), "jmp a\n".repeat(1_500)), room(3_002, 1_500, 3_000, 3_000)),
-        row("names like labels, 2,000 of them", &calls, Expected::Words((0..2_000).flat_map(|n| [CALL, 2 * n]).collect())),
-        source("65,537 bytes, no row", &" ".repeat(65_537), refused(1, 0)),
-        source("65,536 bytes, no row", &" ".repeat(65_536), refused(4, 0)),
-        source("65,536 bytes above 127", &"\u{e4}".repeat(32_768), refused(2, 0)),
-        listed("16,373 bytes", host, &list(16_373), hosts(&vec![0; 1364])),
-        listed("16,384 bytes", host, &list(16_384), refused(9, 1364)),
-        listed("16,385 bytes", host, &list(16_385), refused(8, 0)),
-        bytecode("524,288 bytes", &code(524_288), Expected::Nothing),
-        bytecode("524,289 bytes", &code(524_289), Expected::Nothing),
-        bytecode("524,289 line feeds", &"\n".repeat(524_289), Expected::Nothing),
     ]
 }

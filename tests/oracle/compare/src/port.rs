@@ -4,7 +4,7 @@ use oracle::{Instruction, Place};
 use std::sync::atomic::{AtomicU64, Ordering::Relaxed};
 
 /// The functions of the header, and how often each was called.
-pub static CALLS: [(&str, AtomicU64); 10] = [
+pub static CALLS: [(&str, AtomicU64); 12] = [
     ("ola_assemble", AtomicU64::new(0)),
     ("ola_assemble_parts", AtomicU64::new(0)),
     ("ola_label_name", AtomicU64::new(0)),
@@ -15,6 +15,8 @@ pub static CALLS: [(&str, AtomicU64); 10] = [
     ("ola_encode", AtomicU64::new(0)),
     ("ola_listing_row", AtomicU64::new(0)),
     ("ola_room_of", AtomicU64::new(0)),
+    ("ola_meter_open", AtomicU64::new(0)),
+    ("ola_meter_build", AtomicU64::new(0)),
 ];
 
 fn called(function: usize) {
@@ -45,6 +47,20 @@ pub struct Assembly {
     pub words: u64,
     pub hosts: u64,
     pub kept: u64,
+}
+
+/// The words of all accepted builds since it was opened.
+#[repr(C)]
+#[derive(Debug, Clone, Copy, PartialEq, Eq, Default)]
+pub struct Meter {
+    pub total: u64,
+}
+
+#[repr(C)]
+#[derive(Debug, Clone, Copy, PartialEq, Eq, Default)]
+pub struct Metered {
+    pub assembly: Assembly,
+    pub meter: Meter,
 }
 
 /// What a source takes. `Room` is what is lent.
@@ -160,6 +176,28 @@ mod sys {
         pub fn ola_encode(instruction: NumberedInstruction) -> Encoding;
         pub fn ola_listing_row(instruction: NumberedInstruction, text: *mut u8, text_len: usize) -> Written;
         pub fn ola_room_of(source: *const u8, source_len: usize) -> Figures;
+        pub fn ola_meter_open() -> Meter;
+        pub fn ola_meter_build(
+            meter: Meter,
+            source: *const u8,
+            source_len: usize,
+            prophets: *const u8,
+            prophets_len: usize,
+            kinds: *mut u8,
+            kinds_len: usize,
+            mapped: *mut bool,
+            mapped_len: usize,
+            starts: *mut usize,
+            starts_len: usize,
+            lengths: *mut usize,
+            lengths_len: usize,
+            addresses: *mut u64,
+            addresses_len: usize,
+            words: *mut u64,
+            words_len: usize,
+            hosts: *mut u64,
+            hosts_len: usize,
+        ) -> Metered;
     }
 }
 
@@ -219,6 +257,34 @@ pub fn assemble_parts(source: &[u8], prophets: &[u8], room: &Room, lent: &mut Le
     called(1);
     unsafe {
         sys::ola_assemble_parts(
+            source.as_ptr(),
+            source.len(),
+            prophets.as_ptr(),
+            prophets.len(),
+            lent.kinds.as_mut_ptr(),
+            room.columns[0],
+            lent.mapped.as_mut_ptr(),
+            room.columns[1],
+            lent.starts.as_mut_ptr(),
+            room.columns[2],
+            lent.lengths.as_mut_ptr(),
+            room.columns[3],
+            lent.addresses.as_mut_ptr(),
+            room.columns[4],
+            lent.words.as_mut_ptr(),
+            room.words,
+            lent.hosts.as_mut_ptr(),
+            room.hosts,
+        )
+    }
+}
+
+/// `ola_meter_build` into everything lent but the table.
+pub fn meter_build(meter: Meter, source: &[u8], prophets: &[u8], room: &Room, lent: &mut Lent) -> Metered {
+    called(11);
+    unsafe {
+        sys::ola_meter_build(
+            meter,
             source.as_ptr(),
             source.len(),
             prophets.as_ptr(),
@@ -303,6 +369,11 @@ pub fn listing_row(instruction: NumberedInstruction, room: usize, text: &mut [u8
 pub fn room_of(source: &[u8]) -> Figures {
     called(9);
     unsafe { sys::ola_room_of(source.as_ptr(), source.len()) }
+}
+
+pub fn meter_open() -> Meter {
+    called(10);
+    unsafe { sys::ola_meter_open() }
 }
 
 /// An instruction as the header numbers it; what a content does not have is 0.

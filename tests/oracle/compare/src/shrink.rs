@@ -25,7 +25,7 @@ fn with(case: &Case, mut texts: Vec<Vec<u8>>) -> Case {
 
 /// What is left of a case when no part of any size can be left out.
 pub fn smallest(case: &Case, dry: bool) -> Option<(Case, String)> {
-    let mut checker = Checker::new(dry, 1);
+    let mut checker = Checker::new(dry, 1, 1);
     let mut best: Option<(Case, String)> = None;
     let mut current = texts(case);
     let mut tried = 0;
