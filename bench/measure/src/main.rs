@@ -1,9 +1,12 @@
 //! Measures assembling and reading bytecode by the port and by the Rust with which this is built, in nanoseconds of processor time for a byte: each the
 //! median of several samples. The port: ola_assemble_parts, ola_assemble; ola_open and then ola_next_at to the end. The Rust: asm_relocate and
-//! encode_to_binary; decode_binary_program_to_instructions. And the room of a source, for which the Rust has nothing: ola_room_of beside ola_assemble_parts.
+//! encode_to_binary; decode_binary_program_to_instructions. And what the Rust has nothing for, beside ola_assemble_parts: the room of a source, ola_room_of,
+//! and a build on a meter, ola_meter_build.
 mod sources;
 
+use std::cell::{Cell, RefCell};
 use std::hint::black_box;
+use std::mem::MaybeUninit;
 
 #[repr(C)]
 #[derive(Clone, Copy)]
@@ -23,6 +26,18 @@ struct Assembly {
     words: u64,
     hosts: u64,
     kept: u64,
+}
+
+#[repr(C)]
+#[derive(Clone, Copy)]
+struct Meter {
+    total: u64,
+}
+
+#[repr(C)]
+struct Metered {
+    assembly: Assembly,
+    meter: Meter,
 }
 
 #[repr(C)]
@@ -106,6 +121,28 @@ mod sys {
             hosts: *mut u64,
             hosts_len: usize,
         ) -> Assembly;
+        pub fn ola_meter_open() -> Meter;
+        pub fn ola_meter_build(
+            meter: Meter,
+            source: *const u8,
+            source_len: usize,
+            prophets: *const u8,
+            prophets_len: usize,
+            kinds: *mut u8,
+            kinds_len: usize,
+            mapped: *mut bool,
+            mapped_len: usize,
+            starts: *mut usize,
+            starts_len: usize,
+            lengths: *mut usize,
+            lengths_len: usize,
+            addresses: *mut u64,
+            addresses_len: usize,
+            words: *mut u64,
+            words_len: usize,
+            hosts: *mut u64,
+            hosts_len: usize,
+        ) -> Metered;
         pub fn ola_room_of(source: *const u8, source_len: usize) -> Room;
         pub fn ola_open(text: *const u8, text_len: usize) -> Opened;
         pub fn ola_next_at(text: *const u8, text_len: usize, offset: usize) -> Step;
@@ -159,56 +196,123 @@ fn medians(samplers: &mut [Sampler]) -> Vec<f64> {
             }
         }
     }
-    let median = |mut list: Vec<f64>| {
-        list.sort_by(f64::total_cmp);
-        list[list.len() / 2]
-    };
     lists.into_iter().map(median).collect()
+}
+
+fn median(mut list: Vec<f64>) -> f64 {
+    list.sort_by(f64::total_cmp);
+    list[list.len() / 2]
+}
+
+const CLOSE_SAMPLES: usize = 800;
+const CLOSE_RUNS: usize = 12;
+/// By sixteens, as far as a stack is aligned.
+const DEPTHS: [fn(&dyn Fn()); 8] = [deeper::<16>, deeper::<32>, deeper::<48>, deeper::<64>, deeper::<80>, deeper::<96>, deeper::<112>, deeper::<128>];
+
+/// The runs of a sample, with the stack so many bytes deeper.
+#[inline(never)]
+fn deeper<const N: usize>(run: &dyn Fn()) {
+    black_box(&MaybeUninit::<[u8; N]>::uninit());
+    for _ in 0..CLOSE_RUNS {
+        run();
+    }
+}
+
+/// The medians of two that are nearly alike: of many short samples, each first by turns, and at several depths of the stack, since where a call's stack
+/// stands makes a difference of some hundredths, and one of the two may have a few bytes more of it.
+fn close_medians(runs: [&dyn Fn(); 2]) -> [f64; 2] {
+    let mut lists = [vec![], vec![]];
+    for n in 0..CLOSE_SAMPLES {
+        for which in [n % 2, 1 - n % 2] {
+            let start = now();
+            DEPTHS[n / 2 % DEPTHS.len()](runs[which]);
+            lists[which].push((now() - start) / CLOSE_RUNS as f64);
+        }
+    }
+    lists.map(median)
 }
 
 /// No host is lent.
 const NONE: *mut u64 = std::ptr::NonNull::dangling().as_ptr();
 
-/// `ola_assemble_parts` into buffers that are long enough.
-fn parts(source: &[u8]) -> Assembly {
-    thread_local!(static LENT: std::cell::RefCell<(Vec<u8>, Vec<bool>, Vec<usize>, Vec<usize>, Vec<u64>, Vec<u64>)> = Default::default());
+/// The table's columns and the words, as they are lent by parts.
+type Columns = (Vec<u8>, Vec<bool>, Vec<usize>, Vec<usize>, Vec<u64>, Vec<u64>);
+
+/// A build by parts into buffers that are long enough: the same ones each time, so that where they stand makes no difference between two builds.
+fn lent<R>(build: impl FnOnce(&mut Columns, usize) -> R) -> R {
+    thread_local!(static LENT: RefCell<Columns> = Default::default());
     let n = 65_536;
     LENT.with(|lent| {
         let mut lent = lent.borrow_mut();
         if lent.0.is_empty() {
             *lent = (vec![0; n], vec![false; n], vec![0; n], vec![0; n], vec![0; n], vec![0; n]);
         }
-        let lent = &mut *lent;
-        let answer = unsafe {
-            sys::ola_assemble_parts(
-                source.as_ptr(),
-                source.len(),
-                source.as_ptr(),
-                0,
-                lent.0.as_mut_ptr(),
-                n,
-                lent.1.as_mut_ptr(),
-                n,
-                lent.2.as_mut_ptr(),
-                n,
-                lent.3.as_mut_ptr(),
-                n,
-                lent.4.as_mut_ptr(),
-                n,
-                lent.5.as_mut_ptr(),
-                n,
-                NONE,
-                0,
-            )
-        };
-        assert_eq!(answer.refusal, 0);
-        answer
+        build(&mut lent, n)
     })
+}
+
+/// `ola_assemble_parts`.
+fn parts(source: &[u8]) -> Assembly {
+    let answer = lent(|lent, n| unsafe {
+        sys::ola_assemble_parts(
+            source.as_ptr(),
+            source.len(),
+            source.as_ptr(),
+            0,
+            lent.0.as_mut_ptr(),
+            n,
+            lent.1.as_mut_ptr(),
+            n,
+            lent.2.as_mut_ptr(),
+            n,
+            lent.3.as_mut_ptr(),
+            n,
+            lent.4.as_mut_ptr(),
+            n,
+            lent.5.as_mut_ptr(),
+            n,
+            NONE,
+            0,
+        )
+    });
+    assert_eq!(answer.refusal, 0);
+    answer
+}
+
+/// `ola_meter_build` on the meter that the last build answered.
+fn metered(source: &[u8]) -> Metered {
+    thread_local!(static METER: Cell<Meter> = Cell::new(unsafe { sys::ola_meter_open() }));
+    let answer = lent(|lent, n| unsafe {
+        sys::ola_meter_build(
+            METER.get(),
+            source.as_ptr(),
+            source.len(),
+            source.as_ptr(),
+            0,
+            lent.0.as_mut_ptr(),
+            n,
+            lent.1.as_mut_ptr(),
+            n,
+            lent.2.as_mut_ptr(),
+            n,
+            lent.3.as_mut_ptr(),
+            n,
+            lent.4.as_mut_ptr(),
+            n,
+            lent.5.as_mut_ptr(),
+            n,
+            NONE,
+            0,
+        )
+    });
+    assert_eq!(answer.assembly.refusal, 0);
+    METER.set(answer.meter);
+    answer
 }
 
 /// `ola_assemble` into buffers that are long enough.
 fn entries(source: &[u8]) -> Assembly {
-    thread_local!(static LENT: std::cell::RefCell<(Vec<Label>, Vec<u64>)> = Default::default());
+    thread_local!(static LENT: RefCell<(Vec<Label>, Vec<u64>)> = Default::default());
     let n = 65_536;
     LENT.with(|lent| {
         let mut lent = lent.borrow_mut();
@@ -246,7 +350,8 @@ fn read(text: &[u8]) -> usize {
     }
 }
 
-/// What is measured, the source, its bytes, and nanoseconds a byte of the port and of the Rust; of a room, of `ola_room_of` and of `ola_assemble_parts`.
+/// What is measured, the source, its bytes, and nanoseconds a byte of the port and of the Rust; of a room and of a build on a meter, of `ola_room_of` or
+/// `ola_meter_build` and of `ola_assemble_parts`.
 fn print(what: &str, name: &str, bytes: usize, port: f64, beside: f64) {
     println!("{what}\t{name}\t{bytes}\t{:.4}\t{:.4}", port / bytes as f64, beside / bytes as f64);
 }
@@ -273,5 +378,10 @@ fn main() {
         let bytes = source.as_bytes();
         let found = medians(&mut [sampler(|| bytes, room), sampler(|| bytes, parts)]);
         print("room", name, bytes.len(), found[0], found[1]);
+    }
+    for (name, source) in sources::assembled().into_iter().filter(|(name, _)| *name == "4 KB") {
+        let bytes = source.as_bytes();
+        let found = close_medians([&|| drop(black_box(metered(black_box(bytes)))), &|| drop(black_box(parts(black_box(bytes))))]);
+        print("metered", name, bytes.len(), found[0], found[1]);
     }
 }
