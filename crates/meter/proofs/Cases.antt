@@ -78,22 +78,18 @@ pub stops-right : map stopped (0 ∷ 18446744073709551614 ∷ 184467440737095516
     ≡ 0 ∷ 18446744073709551614 ∷ 18446744073709551615 ∷ 18446744073709551615 ∷ 18446744073709551615 ∷ []
 stops-right = refl
 
-pub answers-right : map (λ c. assembledTotals (c .1 .source) (c .1 .prophets) (c .1 .room)) cases ≡ map (λ c. c .2) cases
-unfolding isSpace isDigit isLetter isWord same total scan all parts _>>=_ _>>_ refuseIf refuseAt digitValue valueFrom numeral operations firstOperation registers registerOf specialOf signed numberOf placed filledParts piecesFrom linePieces rowPieces shapes firstMatch arranged operandsOf arrangedIf isCallRow isPairRow labelRow rowOf nameAt cutAtCalls scopesThat rowsOfScopes instructions labelRows holder withoutLastEmpty labelsAfterHead listedLabels hostsFrom isIn keptFrom firstAbove127 readRows rowsRead sortedOf tabled hostsOf programWords general memory canonicalBy canonicalFrom firstMisplaced encodedRows assembled assembledTotals
-answers-right = refl
-
-pub totals-right : map (λ c. meterAfter (meterOf (c .0)) (builtOf (c .1)) .total) cases ≡ map (λ c. c .3) cases
-unfolding isSpace isDigit isLetter isWord same total scan all parts _>>=_ _>>_ refuseIf refuseAt digitValue valueFrom numeral operations firstOperation registers registerOf specialOf signed numberOf placed filledParts piecesFrom linePieces rowPieces shapes firstMatch arranged operandsOf arrangedIf isCallRow isPairRow labelRow rowOf nameAt cutAtCalls scopesThat rowsOfScopes instructions labelRows holder withoutLastEmpty labelsAfterHead listedLabels hostsFrom isIn keptFrom firstAbove127 readRows rowsRead sortedOf tabled hostsOf programWords general memory canonicalBy canonicalFrom firstMisplaced encodedRows assembled
-totals-right = refl
-
--- the same by the counts
-pub told-right : map (λ c. meterTold (meterOf (c .0)) (c .2) .total) cases ≡ map (λ c. c .3) cases
-told-right = refl
-
 -- a history: each build is on the meter that the last one returned, and counts once
 abbrev history : List Build
 history = printing ∷ plain (bytes "main:\njmp g") ∷ plain (bytes "main:") ∷ printing ∷ []
 
-pub history-right : (played atStart history .total ≡ 12) × (totalOf (map builtOf history) ≡ 12)
-unfolding isSpace isDigit isLetter isWord same total scan all parts _>>=_ _>>_ refuseIf refuseAt digitValue valueFrom numeral operations firstOperation registers registerOf specialOf signed numberOf placed filledParts piecesFrom linePieces rowPieces shapes firstMatch arranged operandsOf arrangedIf isCallRow isPairRow labelRow rowOf nameAt cutAtCalls scopesThat rowsOfScopes instructions labelRows holder withoutLastEmpty labelsAfterHead listedLabels hostsFrom isIn keptFrom firstAbove127 readRows rowsRead sortedOf tabled hostsOf programWords general memory canonicalBy canonicalFrom firstMisplaced encodedRows assembled totalOf played
-history-right = (refl, refl)
+-- the answers, the totals after them, and the total of the history by the meter and by the answers
+pub builds-right : (map (λ c. assembledTotals (c .1 .source) (c .1 .prophets) (c .1 .room)) cases ≡ map (λ c. c .2) cases)
+    × (map (λ c. meterAfter (meterOf (c .0)) (builtOf (c .1)) .total) cases ≡ map (λ c. c .3) cases)
+    × (played atStart history .total ≡ 12)
+    × (totalOf (map builtOf history) ≡ 12)
+unfolding isSpace isDigit isLetter isWord same total scan all parts _>>=_ _>>_ refuseIf refuseAt digitValue valueFrom numeral operations firstOperation registers registerOf specialOf signed numberOf placed filledParts piecesFrom linePieces rowPieces shapes firstMatch arranged operandsOf arrangedIf isCallRow isPairRow labelRow rowOf nameAt cutAtCalls scopesThat rowsOfScopes instructions labelRows holder withoutLastEmpty labelsAfterHead listedLabels hostsFrom isIn keptFrom firstAbove127 readRows rowsRead sortedOf tabled hostsOf programWords general memory canonicalBy canonicalFrom firstMisplaced encodedRows assembled assembledTotals totalOf played
+builds-right = (refl, refl, refl, refl)
+
+-- the totals by the counts
+pub told-right : map (λ c. meterTold (meterOf (c .0)) (c .2) .total) cases ≡ map (λ c. c .3) cases
+told-right = refl

@@ -6,7 +6,7 @@ use native.Mathlib.Omega.{arith}
 use borrow.Author.Needs.{needs}
 use Rattle.text.specs.Lists.{total}
 use Rattle.text.specs.Answer.{Answer, ok, refused, _>>=_}
-use Rattle.encoder.specs.Assemble.{Room, Accepted, totalsOf, assembled, assembledTotals, numbered}
+use Rattle.encoder.specs.Assemble.{Accepted, totalsOf, numbered}
 use Rattle.encoder.specs.declared.AssembleRefusal.{AssembleRefusal}
 use Rattle.encoder.specs.declared.Totals.{Totals}
 use Rattle.encoder.specs.declared.Assembly.{Assembly}

@@ -1,6 +1,6 @@
 -- Laws of a build on a meter: the meter after the counts answered is the meter after the build, and what is left is left part by part.
 use Prim.Native.Nat.{ℕ}
-use mathlib.Core.Path.{_≡_, refl, ap, _∙_}
+use mathlib.Core.Path.{_≡_, ap, _∙_}
 use mathlib.Core.List.{List}
 use mathlib.Core.Bool.{Bool}
 use borrow.Author.Needs.{needs}

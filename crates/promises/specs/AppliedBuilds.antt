@@ -6,7 +6,7 @@ use native.Mathlib.Omega.{arith}
 use Rattle.text.specs.Bytes.{bytes, isSpace, isDigit, isLetter, isWord, same}
 use Rattle.text.specs.Lists.{total}
 use Rattle.text.specs.Scan.{scan, all, parts}
-use Rattle.text.specs.Answer.{ok, refused, _>>=_, _>>_, refuseIf, refuseAt}
+use Rattle.text.specs.Answer.{refused, _>>=_, _>>_, refuseIf, refuseAt}
 use Rattle.text_read.specs.Numerals.{digitValue, valueFrom, numeral}
 use Rattle.vm_opcodes.specs.Operations.{operations, firstOperation}
 use Rattle.vm_hardware.specs.Registers.{registers, registerOf, specialOf}
@@ -37,31 +37,25 @@ unknown = build (bytes "main:\njmp g")
 abbrev history : List Build
 history = build printingSource ∷ unknown ∷ build (bytes "main:") ∷ build printingSource ∷ []
 
-history-total : totalOf (map builtOf history) ≡ 12
-unfolding isSpace isDigit isLetter isWord same total scan all parts _>>=_ _>>_ refuseIf refuseAt digitValue valueFrom numeral operations firstOperation registers registerOf specialOf signed numberOf placed filledParts piecesFrom linePieces rowPieces shapes firstMatch arranged operandsOf arrangedIf isCallRow isPairRow labelRow rowOf nameAt cutAtCalls scopesThat rowsOfScopes instructions labelRows holder withoutLastEmpty labelsAfterHead listedLabels hostsFrom firstAbove127 readRows rowsRead sortedOf tabled hostsOf programWords general memory canonicalBy canonicalFrom firstMisplaced encodedRows assembled totalOf
-history-total = refl
-
-history-counts : played atStart history .total ≡ 12
-history-counts = meter-counts history ∙ history-total
-
--- a jump has two words, and one is left until the stop: it is reached once, and stays
-abbrev nearStop : Meter
-nearStop = record { total = 18446744073709551614 }
-
+-- two words each
 abbrev jumps : List Build
 jumps = build (bytes "main:\njmp 5") ∷ build (bytes "main:\njmp 5") ∷ []
 
-jumps-added : total (map added (map builtOf jumps)) ≡ 4
-unfolding isSpace isDigit isLetter isWord same total scan all parts _>>=_ _>>_ refuseIf refuseAt digitValue valueFrom numeral operations firstOperation registers registerOf specialOf signed numberOf placed filledParts piecesFrom linePieces rowPieces shapes firstMatch arranged operandsOf arrangedIf isCallRow isPairRow labelRow rowOf nameAt cutAtCalls scopesThat rowsOfScopes instructions labelRows holder withoutLastEmpty labelsAfterHead listedLabels hostsFrom firstAbove127 readRows rowsRead sortedOf tabled hostsOf programWords general memory canonicalBy canonicalFrom firstMisplaced encodedRows assembled
-jumps-added = refl
+-- what their answers come to
+computed : (totalOf (map builtOf history) ≡ 12) × (total (map added (map builtOf jumps)) ≡ 4) × (builtOf unknown ≡ refused 10 0)
+unfolding isSpace isDigit isLetter isWord same total scan all parts _>>=_ _>>_ refuseIf refuseAt digitValue valueFrom numeral operations firstOperation registers registerOf specialOf signed numberOf placed filledParts piecesFrom linePieces rowPieces shapes firstMatch arranged operandsOf arrangedIf isCallRow isPairRow labelRow rowOf nameAt cutAtCalls scopesThat rowsOfScopes instructions labelRows holder withoutLastEmpty labelsAfterHead listedLabels hostsFrom firstAbove127 readRows rowsRead sortedOf tabled hostsOf programWords general memory canonicalBy canonicalFrom firstMisplaced encodedRows assembled totalOf
+computed = (refl, refl, refl)
+
+history-counts : played atStart history .total ≡ 12
+history-counts = meter-counts history ∙ computed .0
+
+-- one word is left until the stop: the first jump reaches it, and the second stays there
+abbrev nearStop : Meter
+nearStop = record { total = 18446744073709551614 }
 
 jumps-stop : played nearStop jumps .total ≡ 18446744073709551615
-jumps-stop = meter-from nearStop jumps (omega arith) ∙ (let e = jumps-added in omega (arith, e))
+jumps-stop = let e = computed .1 in meter-from nearStop jumps (omega arith) ∙ omega (arith, e)
 
 -- the meter comes back as it went in
-unknown-refused : builtOf unknown ≡ refused 10 0
-unfolding isSpace isDigit isLetter isWord same total scan all parts _>>=_ _>>_ refuseIf refuseAt digitValue valueFrom numeral operations firstOperation registers registerOf specialOf signed numberOf placed filledParts piecesFrom linePieces rowPieces shapes firstMatch arranged operandsOf arrangedIf isCallRow isPairRow labelRow rowOf nameAt cutAtCalls scopesThat rowsOfScopes instructions labelRows holder withoutLastEmpty labelsAfterHead listedLabels hostsFrom firstAbove127 readRows rowsRead sortedOf tabled hostsOf programWords general memory canonicalBy canonicalFrom firstMisplaced encodedRows assembled
-unknown-refused = refl
-
 unknown-kept : meterAfter nearStop (builtOf unknown) ≡ nearStop
-unknown-kept = meter-kept nearStop unknown 10 0 unknown-refused
+unknown-kept = meter-kept nearStop unknown 10 0 (computed .2)
