@@ -12,8 +12,8 @@
  *  - what is lent to be written overlaps nothing else that is lent to the same call, and nobody else writes or reads it until the call returns.
  *    Buffers that are only read may overlap each other, and nobody writes them meanwhile;
  *  - the thread has the stack that is said below.
- * Nothing else is owed: any bytes are a source, a prophet list or a bytecode, any numbers an instruction or an entry, and any length of a buffer
- * will do. Nothing is allocated, nothing is kept between calls, and calls from several threads do not disturb each other.
+ * Nothing else is owed: any bytes are a source, a prophet list or a bytecode, any numbers an instruction, an entry or a meter, and any length of
+ * a buffer will do. Nothing is allocated, nothing is kept between calls, and calls from several threads do not disturb each other.
  *
  * The stack that a call takes, in bytes, is less than the figure for its function below: tests/c/stack.c compares the two, on x86-64, with a source of
  * 65,536 bytes, a prophet list of 16,384 and their bytecode. A first call counts too, in which the dynamic linker may look memcpy or memset up on the
@@ -101,7 +101,7 @@ ola_assembly ola_assemble_parts(const uint8_t *source, size_t source_len, const 
 ola_meter ola_meter_open(void);
 
 /* Assembles as ola_assemble_parts does, and counts the words of an accepted build. Refusals 1 to 13. Each build takes the meter that the last one answered:
-   a meter is a number of the caller's, and nothing here remembers it. So two builds on one meter, from two threads too, count one, and what ola_assemble
+   a meter is a number of the caller's, and the library keeps none. So two builds on one meter, from two threads too, count one, and what ola_assemble
    and ola_assemble_parts build no meter counts. At 2^64 - 1 a build is accepted as ever, and the meter stays there. Any meter may be given, one that
    ola_meter_open never answered too. */
 ola_metered ola_meter_build(ola_meter meter, const uint8_t *source, size_t source_len, const uint8_t *prophets, size_t prophets_len,

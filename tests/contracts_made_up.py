@@ -37,6 +37,9 @@ pub struct Lent<'a> {
 pub struct Within<'a> {
     pub lent: Lent<'a>,
 }
+pub struct Left {
+    pub exit: u8,
+}
 """,
     'crates/made/specs/Maps.antt': """
 use lib.Half.{half}
@@ -147,6 +150,13 @@ kindUnlisted Third = 2
 unfoldable pub good : ℕ → ℕ
 good n = half n
 """,
+    'crates/made/specs/Other.antt': """
+use denote.Ref.{RefT, ptr as now}
+
+-- `now` is another name here
+abbrev pub bothPoint : RefT (List ℕ) → RefT (List ℕ) → Both
+bothPoint t u = record { first = now t; second = now u }
+""",
     'crates/made/specs/Why.antt': """
 use Rattle.made.specs.declared.Why.the-variants.{TooLong, NoWord, NoPlace}
 
@@ -200,6 +210,8 @@ use made::Step;
 ghost use lib.ListN.{length};
 ghost use Rattle.made.specs.Maps.{good, readTold, readMerged, readLineOnly, readWild, stepForgets, stepHalves, points, bothHold, firstHolds, secondPoints};
 ghost use Rattle.made.specs.Maps.{kindWild, kindMerged, kindLacks, kindUnlisted, kindNumerals, kindAlias, kindHidden, readLiteral};
+ghost use Rattle.made.specs.Other.{bothPoint};
+use made::Left;
 use made::Within;
 // nothing is said of the result
 pub fn unsaid(x: u8) -> u8 { x }
@@ -272,6 +284,15 @@ pub fn one_buffer_pointed_at(t: &mut [u8], u: &mut [u8])
 // nothing is said of u at the exit
 pub fn one_buffer_twice(t: &mut [u8], u: &mut [u8])
     ensures { λ _. ⌜ bothHold (t .exit) (t .exit) ≡ good 1 ⌝ }
+{ }
+// nothing is said of t at the exit
+pub fn both_pointed_at(t: &mut [u8], u: &mut [u8])
+    ensures { λ _. ⌜ bothPoint (t .exit) (u .exit) ≡ good 1 ⌝ }
+{ }
+// nothing is said of t at the exit
+pub fn result_of_that_name(t: &mut [u8]) -> Left
+    ensures { λ r. ⌜ r ≡ good 1 ⌝ }
+    ensures { λ t. ⌜ t .exit ≡ good 1 ⌝ }
 { }
 // nothing is said of t at the exit
 pub fn buffers_before(t: &mut [u8], u: &mut [u8])
@@ -373,7 +394,8 @@ FILES = [
     ('pub default fn f() {}', 'a public function of a form that is not read'),
 ]
 
-MADE_UP_MAPS = {f'made.Maps.{name}' for name in re.findall(r'abbrev pub (\w+)', MADE_UP['crates/made/specs/Maps.antt'])} - {'made.Maps.kindUnlisted'}
+MADE_UP_MAPS = {f'made.{module}.{name}' for module in ('Maps', 'Other') for name in re.findall(r'abbrev pub (\w+)', MADE_UP[f'crates/made/specs/{module}.antt'])}
+MADE_UP_MAPS -= {'made.Maps.kindUnlisted'}
 
 ORDERS = [
     ('below:\npart: below\nprogram: part below\n', []),

@@ -1,5 +1,5 @@
 -- The library's answers as numbers, all but those of opening and next: refusal 0 means accepted, and "On refusal, fields other than refusal and detail
--- are 0".
+-- are 0", but that a meter is the one that was given.
 use Prim.Native.Nat.{ℕ}
 use Rattle.text.specs.Answer.{Answer, ok, refused}
 use Rattle.asm.specs.Parts.{Span}

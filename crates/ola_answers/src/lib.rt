@@ -1,5 +1,5 @@
 // What the library answers as C structs, all but opening and next, which ola_steps has: refusal 0 means accepted, and on refusal every other number but the
-// detail is 0. Nothing but conversions.
+// detail is 0, but that a meter is the one that was given. Nothing but conversions.
 use encoder::AssembleRefusal;
 use encoder::Assembly;
 use meter::Meter;

@@ -1,6 +1,8 @@
 -- The promises: demand 3, and what else a reviewer relies on, as theorems about the definitions that the contracts cite. Each is proved in the file
 -- that it names, and names the public functions of whose contracts it speaks: those of Rattle, and the exports of ola_c, whose contracts cite the same
 -- definitions. Of ola_label_name, ola_encode, ola_listing_row and ola_version no theorem speaks: their contracts are their whole outcome.
+-- What is said of encoder_assemble::assemble_parts and ola_assemble_parts is said of meter_builds::build_parts and ola_meter_build too: these cite the same
+-- definitions for their answers and for what they leave.
 -- A source is accepted where assembling it, with some prophets and some room, answers ok a: a .program is then its canonical program, made
 -- from its rows, a .words its words, and bytecodeOf (a .words) its bytecode.
 use Prim.Native.Nat.{ℕ, suc, _+_, _-_, _≤_, _<_}
@@ -224,14 +226,15 @@ same-lines s t e = lines-texts s ∙ ap textRows e ∙ sym (lines-texts t)
 
 -- Any builds, one after another on one meter: the first on a meter at its start, each other on the meter that the one before it returned. The meter then
 -- holds the total of their history: the words of the accepted ones, 2^64 - 1 where they are more.
--- Of meter::Meter::open and meter_builds::build_parts, ola_meter_open and ola_meter_build.
+-- Of meter::Meter::open and meter_builds::build_parts, ola_meter_open and ola_meter_build; of meter::Meter::after, whose meter by the counts answered is
+-- this one (told-after of meter/proofs/Laws.antt).
 -- The front desk may read the total off the meter, whatever was built on it and refused.
 pub meter-counts : (bs : List Build) → played atStart bs .total ≡ totalOf (map builtOf bs)
 meter-counts = played-counts
 
 -- The same from any meter that a caller can hold: its total, and what the builds added to it.
 -- Of meter_builds::build_parts, meter::Meter::after and ola_meter_build.
--- A total that was put by may be given back later, and the counting goes on from there.
+-- A total that was written down may be given back later, and the counting goes on from there.
 pub meter-from : (m : Meter) (bs : List Build) → m .total ≤ 18446744073709551615 → played m bs .total ≡ stopped (m .total + total (map added (map builtOf bs)))
 meter-from = played-from
 
