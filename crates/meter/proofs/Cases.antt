@@ -25,13 +25,15 @@ use Rattle.encoder.specs.declared.Totals.{Totals}
 use Rattle.meter.specs.declared.Meter.{Meter}
 use Rattle.meter.specs.Meter.{Build, builtOf, stopped, totalOf, atStart, meterAfter, meterTold, played}
 
--- a source with no prophets, in room enough or in so many entries and words
+-- a source with no prophets, in so many entries and words
 abbrev into : List ℕ → ℕ → ℕ → Build
 into s entries words = record { source = s; prophets = []; room = record { entries = entries; words = words; hosts = 9 } }
 
+-- in room enough
 abbrev plain : List ℕ → Build
 plain s = into s 9 9
 
+-- the same with a prophet list
 abbrev listed : List ℕ → List ℕ → Build
 listed s list = record { source = s; prophets = list; room = record { entries = 9; words = 9; hosts = 9 } }
 
@@ -62,7 +64,7 @@ cases =
     ∷ (0, plain (bytes "main:\nmov r1 [r2]"), counts 1 1 0 0, 1)
     -- neither hosts nor label rows count
     ∷ (0, listed (bytes "main:\n.PROPHET0_0:\nret") (bytes "label\n.PROPHET0_0\n.PROPHET0_0"), counts 2 1 2 1, 1)
-    -- "stops there", and nothing is refused for it: one word short of it, at it, and far past it
+    -- "stops there", and nothing is refused for it: a sum just below it, one just at it, and sums past it
     ∷ (18446744073709551612, plain jump, counts 1 2 0 0, 18446744073709551614)
     ∷ (18446744073709551613, plain jump, counts 1 2 0 0, 18446744073709551615)
     ∷ (18446744073709551614, plain jump, counts 1 2 0 0, 18446744073709551615)

@@ -22,9 +22,9 @@ use Rattle.relocate.specs.Relocate.{firstAbove127, rowsRead, sortedOf, tabled, 
 use Rattle.program.specs.Words.{programWords}
 use Rattle.encoder.specs.Canonical.{general, memory, canonicalBy, canonicalFrom, firstMisplaced}
 use Rattle.encoder.specs.Assemble.{encodedRows, assembled}
-use Rattle.meter_builds.specs.Lent.{Lent, entriesIn, lentLeft}
+use Rattle.meter_builds.specs.Lent.{Lent, lentLeft}
 
--- two table entries, whose last column is as given, and words and hosts
+-- five columns, words and hosts
 abbrev lent : List ℕ → List Bool → List ℕ → List ℕ → List ℕ → List ℕ → List ℕ → Lent
 lent kinds mapped starts lengths addresses words hosts = record {
   table = record { kinds = kinds; mapped = mapped; starts = starts; lengths = lengths; addresses = addresses };
@@ -32,11 +32,11 @@ lent kinds mapped starts lengths addresses words hosts = record {
   hosts = hosts;
 }
 
--- nines as a caller left them
+-- as a caller left them, with two entries in all columns but the last, and one host
 abbrev fresh : List ℕ → List ℕ → Lent
 fresh addresses words = lent (9 ∷ 9 ∷ []) (false ∷ false ∷ []) (9 ∷ 9 ∷ []) (9 ∷ 9 ∷ []) addresses words (9 ∷ [])
 
--- the row of main in the first entry
+-- the same with the row of main in the first entry
 abbrev filled : List ℕ → Lent
 filled words = lent (0 ∷ 9 ∷ []) (true ∷ false ∷ []) (0 ∷ 9 ∷ []) (4 ∷ 9 ∷ []) (0 ∷ 9 ∷ []) words (9 ∷ [])
 
