@@ -1,5 +1,5 @@
 -- Inputs that separate likely misreadings of operand shapes, rows, counted lengths and surveys, by computation. Expected values: documents 01 and
--- 02 (Point 1, words; Point 2, labels), READINGS 1 to 5 and 11, and the patterns of assembler/src/operands.rs and assembler/src/asm.rs.
+-- 02 (Point 1, words; Point 2, labels; Point 4, hexadecimal), READINGS 1 to 5 and 11, and the patterns of assembler/src/operands.rs and assembler/src/asm.rs.
 use Prim.Native.Nat.{ℕ}
 use mathlib.Core.Path.{_≡_, refl}
 use mathlib.Core.List.{List, [], _∷_, map}
@@ -16,7 +16,7 @@ use Rattle.vm_hardware.specs.declared.OlaRegister.the-variants.{R1, R2, R3, R9}
 use Rattle.vm_hardware.specs.declared.OlaSpecialRegister.the-variants.{PC, PSP}
 use Rattle.vm_operands.specs.Numbers.{immediate, signed, numberOf}
 use Rattle.asm.specs.Parts.{placed, filledParts, piecesFrom, linePieces, rowPieces, nameAt, sourcePieces}
-use Rattle.asm.specs.Operands.{shapes, firstMatch, operandOf}
+use Rattle.asm.specs.Operands.{isSourceNumber, sourceNumber, shapes, firstMatch, operandOf}
 use Rattle.asm.specs.Rows.{arranged, operandsOf, arrangedIf, isCallRow, isPairRow, labelRow, rowOf, readRows, instruction, instructions, countedLength}
 use Rattle.asm.specs.Survey.{wordCount, countRows, firstCall, mainStart, mainEnd, surveyFrom, surveyOf}
 use Rattle.asm.specs.declared.OlaAsmOperand.the-variants.{Empty, ImmediateOperand, RegisterOperand, RegisterWithOffset, RegisterWithFactoredRegOffset, SpecialReg, Label, Identifier}
@@ -41,9 +41,47 @@ operandCases =
     ∷ (bytes "007", Is (ImmediateOperand (immediate 7)))
     ∷ (bytes "18446744069414584321", Unreadable)
     ∷ (bytes "-18446744069414584321", Unreadable)
-    ∷ (bytes "0x5", Unreadable)
     ∷ (bytes "1a", Unreadable)
     ∷ (bytes "+", Unreadable)
+    -- 02, Point 4: "`0x` and one to sixteen hexadecimal digits of either case"
+    ∷ (bytes "0x5", Is (ImmediateOperand (immediate 5)))
+    ∷ (bytes "0xaBcD", Is (ImmediateOperand (immediate 0xabcd)))
+    ∷ (bytes "0x0123456789abcdef", Is (ImmediateOperand (immediate 0x0123456789abcdef)))
+    ∷ (bytes "0xFEDCBA9876543210", Is (ImmediateOperand (immediate 0xfedcba9876543210)))
+    ∷ (bytes "0x0000000000000005", Is (ImmediateOperand (immediate 5)))
+    ∷ (bytes "0x00000000000000005", Unreadable)
+    ∷ (bytes "0x10000000000000000", Unreadable)
+    -- "below p"
+    ∷ (bytes "0xffffffff00000000", Is (ImmediateOperand (immediate 18446744069414584320)))
+    ∷ (bytes "0xffffffff00000001", Unreadable)
+    ∷ (bytes "0xffffffffffffffff", Unreadable)
+    -- "without sign", and no other spelling
+    ∷ (bytes "-0x5", Unreadable)
+    ∷ (bytes "+0x5", Unreadable)
+    ∷ (bytes "0x+5", Unreadable)
+    ∷ (bytes "0x-5", Unreadable)
+    ∷ (bytes "0x", Unreadable)
+    ∷ (bytes "0X5", Unreadable)
+    ∷ (bytes "0x0x5", Unreadable)
+    ∷ (bytes "00x5", Unreadable)
+    ∷ (bytes "x5", Is (Identifier 7 2))
+    ∷ (bytes "0xg", Unreadable)
+    ∷ (bytes "0x5_", Unreadable)
+    ∷ (bytes "0x5:", Unreadable)
+    ∷ (bytes "r0x1", Is (Identifier 7 4))
+    -- "bracketed operands ... follow it"
+    ∷ (bytes "[r2,0xA]", Is (RegisterWithOffset R2 (immediate 10)))
+    ∷ (bytes "[r2,0xffffffff00000000]", Is (RegisterWithOffset R2 (immediate 18446744069414584320)))
+    ∷ (bytes "[r2,0xffffffff00000001]", Unreadable)
+    ∷ (bytes "[r2,0x00000000000000005]", Unreadable)
+    ∷ (bytes "[r2,-0xA]", Unreadable)
+    ∷ (bytes "[r2,0x]", Unreadable)
+    ∷ (bytes "[0x5]", Unreadable)
+    ∷ (bytes "[r2,r3,0xa]", Is (RegisterWithFactoredRegOffset R2 R3 (immediate 10)))
+    ∷ (bytes "[r2,r3,0xffffffff00000001]", Unreadable)
+    ∷ (bytes "[r2,0x1,0xa]", Unreadable)
+    -- no other digits of an operand are n
+    ∷ (bytes ".LBL0x1_2", Unreadable)
     ∷ (bytes "r9", Is (RegisterOperand R9))
     ∷ (bytes "r10", Is (Identifier 7 3))
     ∷ (bytes "r", Is (Identifier 7 1))
@@ -130,6 +168,17 @@ rowCases =
     ∷ (bytes "mload r1 xLBL1_2", instruction MLOAD Empty (Identifier 9 7) (RegisterOperand R1) ∷ [])
     ∷ (bytes "mload r1 5LBL1_2", NoRow ∷ [])
     ∷ (bytes "add 5LBL1_2 r1 .LBL1_2", NoRow ∷ [])
+    -- "rows ... follow it"
+    ∷ (bytes "add r1 0x5 0x6", instruction ADD (ImmediateOperand (immediate 5)) (ImmediateOperand (immediate 6)) (RegisterOperand R1) ∷ [])
+    ∷ (bytes "mload r1 [r2,0xA]", instruction MLOAD Empty (RegisterWithOffset R2 (immediate 10)) (RegisterOperand R1) ∷ [])
+    ∷ (bytes "mstore [r1,r2,0xa] r3", instruction MSTORE (RegisterWithFactoredRegOffset R1 R2 (immediate 10)) (RegisterOperand R3) Empty ∷ [])
+    ∷ (bytes "mov r1 0x00000000000000005", NoRow ∷ [])
+    ∷ (bytes "mov r1 0x 5", NoRow ∷ [])
+    ∷ (bytes "mov r1 0x;5", NoRow ∷ [])
+    ∷ (bytes "0x5 r1 r2", NoRow ∷ [])
+    ∷ (bytes "0x5:", IsRow (LabelCall 0 3) ∷ [])
+    ∷ (bytes ".LBL0x1_2:", NoRow ∷ [])
+    ∷ (bytes ".PROPHET0x1_2:", NoRow ∷ [])
     ∷ (bytes "f:", IsRow (LabelCall 0 1) ∷ [])
     ∷ (bytes "\n main: ; x", IsRow (LabelCall 2 4) ∷ [])
     ∷ (bytes "f.1:", IsRow (LabelCall 0 3) ∷ [])
@@ -177,6 +226,9 @@ lengthCases =
     ∷ (bytes "mload r1 5", some (2, 2))
     ∷ (bytes "mstore [r2,r3] r1", some (2, 2))
     ∷ (bytes "mload r1 [r2]", some (2, 2))
+    ∷ (bytes "mload r1 [r2,0xA]", some (2, 2))
+    ∷ (bytes "mov r1 0xA", some (2, 2))
+    ∷ (bytes "mov 0xA r1", some (1, 1))
     -- more words than are counted, which 11 turns away
     ∷ (bytes "mload r1 r2", some (1, 2))
     -- op0 takes no word, which 12 turns away
@@ -203,17 +255,17 @@ surveyCases =
 
 -- the cases are exported, since modules that export are checked first: a wrong definition is told by its case, then by the laws
 pub operands-right : map (λ c. piece (c .0)) operandCases ≡ map (λ c. c .1) operandCases
-unfolding isDigit isLetter isWord same scan all digitValue valueFrom numeral registers registerOf specialOf signed numberOf shapes firstMatch
+unfolding isDigit isLetter isWord same scan all digitValue valueFrom numeral registers registerOf specialOf signed numberOf isSourceNumber sourceNumber shapes firstMatch
 operands-right = refl
 
 pub rows-right : map (λ c. rowsOf (c .0)) rowCases ≡ map (λ c. c .1) rowCases
-unfolding isSpace isDigit isLetter isWord same scan all parts digitValue valueFrom numeral operations firstOperation registers registerOf specialOf signed numberOf placed filledParts piecesFrom linePieces rowPieces shapes firstMatch arranged operandsOf arrangedIf isCallRow isPairRow labelRow rowOf
+unfolding isSpace isDigit isLetter isWord same scan all parts digitValue valueFrom numeral operations firstOperation registers registerOf specialOf signed numberOf placed filledParts piecesFrom linePieces rowPieces isSourceNumber sourceNumber shapes firstMatch arranged operandsOf arrangedIf isCallRow isPairRow labelRow rowOf
 rows-right = refl
 
 pub lengths-right : map (λ c. lengthOf (rowsOf (c .0))) lengthCases ≡ map (λ c. c .1) lengthCases
-unfolding isSpace isDigit isLetter isWord same scan all parts digitValue valueFrom numeral operations firstOperation registers registerOf specialOf signed numberOf placed filledParts piecesFrom linePieces rowPieces shapes firstMatch arranged operandsOf arrangedIf isCallRow isPairRow labelRow rowOf
+unfolding isSpace isDigit isLetter isWord same scan all parts digitValue valueFrom numeral operations firstOperation registers registerOf specialOf signed numberOf placed filledParts piecesFrom linePieces rowPieces isSourceNumber sourceNumber shapes firstMatch arranged operandsOf arrangedIf isCallRow isPairRow labelRow rowOf
 lengths-right = refl
 
 pub surveys-right : map (λ c. surveyOf (c .0)) surveyCases ≡ map (λ c. c .1) surveyCases
-unfolding isSpace isDigit isLetter isWord same total scan all parts _>>=_ digitValue valueFrom numeral operations firstOperation registers registerOf specialOf signed numberOf placed filledParts piecesFrom linePieces rowPieces nameAt shapes firstMatch arranged operandsOf arrangedIf isCallRow isPairRow labelRow rowOf readRows instructions countRows firstCall mainStart mainEnd surveyFrom
+unfolding isSpace isDigit isLetter isWord same total scan all parts _>>=_ digitValue valueFrom numeral operations firstOperation registers registerOf specialOf signed numberOf placed filledParts piecesFrom linePieces rowPieces nameAt isSourceNumber sourceNumber shapes firstMatch arranged operandsOf arrangedIf isCallRow isPairRow labelRow rowOf readRows instructions countRows firstCall mainStart mainEnd surveyFrom
 surveys-right = refl

@@ -1,19 +1,22 @@
 -- "Operand shapes, first match wins".
-use Prim.Native.Nat.{ℕ, _+_, _-_}
+use Prim.Native.Nat.{ℕ, _+_, _-_, _^_}
 use mathlib.Core.List.{List, [], _∷_}
-use mathlib.Core.Bool.{Bool, true, false, not, _&&_, cond}
+use mathlib.Core.Bool.{Bool, true, false, not, _&&_, _||_, cond}
 use lib.Dec.{eqb, ltb}
 use lib.ListN.{length, drop, getD}
 use lib.Seq.{slice}
 use Rattle.text.specs.Bytes.{bytes, isDigit, isLetter, isWord, same}
 use Rattle.text.specs.Scan.{scan, all, isEmpty}
+use Rattle.text_read.specs.Numerals.{numeral}
+use Rattle.text_read.specs.declared.Numeral.{Numeral}
+use Rattle.text_read.specs.declared.Numeral.the-variants.{Value, Nothing as NoNumeral}
 use Rattle.vm_hardware.specs.Registers.{registerOf, registerAt, specialOf}
 use Rattle.vm_hardware.specs.declared.OlaRegister.{OlaRegister}
 use Rattle.vm_hardware.specs.declared.RegisterFound.{RegisterFound}
 use Rattle.vm_hardware.specs.declared.RegisterFound.the-variants.{Is as IsRegister, Nothing as NoRegister}
 use Rattle.vm_hardware.specs.declared.SpecialFound.{SpecialFound}
 use Rattle.vm_hardware.specs.declared.SpecialFound.the-variants.{Is as IsSpecial, Nothing as NoSpecial}
-use Rattle.vm_operands.specs.Numbers.{immediate, numberOf, unsigned}
+use Rattle.vm_operands.specs.Numbers.{immediate, signed, numberOf, unsigned}
 use Rattle.vm_operands.specs.declared.ImmediateValue.{ImmediateValue}
 use Rattle.vm_operands.specs.declared.ImmediateFound.{ImmediateFound}
 use Rattle.vm_operands.specs.declared.ImmediateFound.the-variants.{Is as IsNumber, Nothing as NoNumber}
@@ -33,13 +36,21 @@ byteIs x k c = eqb (getD x k 0) c
 abbrev pub isDigits : List ℕ → Bool
 isDigits x = not (isEmpty x) && all isDigit x
 
--- n: "an optional sign and decimal digits"
-abbrev pub isSourceNumber : List ℕ → Bool
-isSourceNumber x = isDigits (unsigned x)
+-- 02, Point 4: "`0x` and one to sixteen hexadecimal digits of either case, without sign"; sixteen digits pass no 64 bits
+abbrev pub hexNumeral : List ℕ → Numeral
+hexNumeral x = cond (byteIs x 0 48 && byteIs x 1 120 && ltb (length x) 19) (numeral 16 (2 ^ 64) (drop 2 x)) NoNumeral
 
--- what n is; none where it is out of range
-abbrev pub sourceNumber : List ℕ → ImmediateFound
-sourceNumber x = numberOf x
+abbrev pub isNumeral : Numeral → Bool
+isNumeral (Value v) = true
+isNumeral NoNumeral = false
+
+-- n: "an optional sign and decimal digits", or those
+unfoldable pub isSourceNumber : List ℕ → Bool
+isSourceNumber x = isDigits (unsigned x) || isNumeral (hexNumeral x)
+
+-- what n is; none where it is out of range: "below p"
+unfoldable pub sourceNumber : List ℕ → ImmediateFound
+sourceNumber x = cond (isNumeral (hexNumeral x)) (signed false (hexNumeral x)) (numberOf x)
 
 -- rA at place k
 abbrev pub isRegisterAt : List ℕ → ℕ → Bool

@@ -20,7 +20,7 @@ use Rattle.vm_opcodes.specs.declared.OpcodeFound.the-variants.{Is as IsOpcode, 
 use Rattle.vm_operands.specs.Numbers.{isSigned}
 use Rattle.vm_mnemonics.specs.Mnemonics.{operationOf}
 use Rattle.asm.specs.Parts.{Part}
-use Rattle.asm.specs.Operands.{Shape, byteIs, isDigits, isPair, isBracketed, factored, paired, bare, offset, register, number, label, special, name, isName, shapes, firstMatch, operandOf}
+use Rattle.asm.specs.Operands.{Shape, byteIs, isDigits, isPair, isBracketed, isSourceNumber, factored, paired, bare, offset, register, number, label, special, name, isName, shapes, firstMatch, operandOf}
 use Rattle.asm.specs.Rows.{oneMore, operandsOf, arrangedIf, rowOf}
 use Rattle.asm.specs.declared.OlaAsmOperand.the-variants.{Label, Identifier}
 use Rattle.asm.specs.declared.OperandRead.{OperandRead}
@@ -33,7 +33,7 @@ use Rattle.asm.specs.declared.RowRead.the-variants.{Unreadable as NoRow}
 abbrev pub anyLabel : Shape
 anyLabel = record { fits = λ x. same (slice 1 4 x) (bytes "LBL") && isPair (drop 4 x); means = label .means }
 
--- 01's shapes, in its order
+-- 01's shapes, in its order, with n as it is now
 abbrev pub formerShapes : List Shape
 formerShapes = factored ∷ paired ∷ bare ∷ offset ∷ register ∷ number ∷ anyLabel ∷ special ∷ name ∷ []
 
@@ -96,12 +96,12 @@ module _ (c : ℕ) (pair : List ℕ) (n : ℕ) where
   no-register = rw (ne-eqb (suc (suc (suc (suc (length pair))))) 2 (λ e. omega arith))
 
   no-number : number .fits (piece .text) ≡ false
-  unfolding isDigit all
-  no-number = go (isSigned (piece .text))
+  unfolding isSourceNumber isDigit all
+  no-number = rw (and-false (eqb c 48)) (go (isSigned (piece .text)))
     where
-      go : (t : Bool) → isDigits (cond t (76 ∷ 66 ∷ 76 ∷ pair) (piece .text)) ≡ false
+      go : (t : Bool) → isDigits (cond t (76 ∷ 66 ∷ 76 ∷ pair) (piece .text)) || false ≡ false
       go true = refl
-      go false = and-false (isDigit c)
+      go false = rw (and-false (isDigit c))
 
   no-special : special .fits (piece .text) ≡ false
   unfolding specialOf same

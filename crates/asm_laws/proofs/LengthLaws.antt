@@ -26,7 +26,7 @@ use Rattle.vm_opcodes.proofs.Laws.{every-operation, first-holds}
 use Rattle.vm_mnemonics.specs.Mnemonics.{mnemonic, operationOf}
 use Rattle.vm_hardware.specs.Registers.{registerOf, specialOf}
 use Rattle.asm.specs.Parts.{Part, placed, filledParts, withoutComment, piecesFrom, linePieces, rowPieces, sourcePieces}
-use Rattle.asm.specs.Operands.{shapes, firstMatch, operandOf}
+use Rattle.asm.specs.Operands.{isSourceNumber, shapes, firstMatch, operandOf}
 use Rattle.asm.specs.Rows.{arranged, arrangedIf, oneMore, operandsOf, labelRow, isCallRow, isPairRow, orElseRow, rowOf}
 use Rattle.asm.specs.declared.OlaAsmOperand.{OlaAsmOperand}
 use Rattle.asm.specs.declared.OlaAsmOperand.the-variants.{Empty}
@@ -151,7 +151,7 @@ unread e = let z : _≡_ {A = ℕ} 0 1 = cc in omega arith
 
 -- a piece that is read as an operand holds a byte
 operand-bytes : (q : Part) (o : OlaAsmOperand) → operandOf q ≡ IsOperand o → 2 ≤ pieceBytes q
-unfolding shapes firstMatch registerOf specialOf isLetter same
+unfolding isSourceNumber shapes firstMatch registerOf specialOf isLetter same
 operand-bytes q o h = go (q .start) (q .text) h
   where
     go : (n : ℕ) (x : List ℕ) → operandOf (record { start = n; text = x }) ≡ IsOperand o → 2 ≤ length x + 1

@@ -2,6 +2,7 @@ pub mod LengthLaws
 pub mod ShapeLaws
 pub mod NumberLaws
 pub mod LabelLaws
+pub mod SpellingLaws
 pub mod PieceLaws
 pub mod JoinLaws
 pub mod StepLaws

@@ -11,13 +11,13 @@ use Rattle.vm_hardware.specs.declared.RegisterFound.{RegisterFound}
 use Rattle.vm_hardware.specs.declared.RegisterFound.the-variants.{Is as IsRegister, Nothing as NoRegister}
 use Rattle.vm_hardware.specs.declared.SpecialFound.{SpecialFound}
 use Rattle.vm_hardware.specs.declared.SpecialFound.the-variants.{Is as IsSpecial, Nothing as NoSpecial}
-use Rattle.vm_operands.specs.Numbers.{order, immediate, numberOf}
-use Rattle.vm_operands.proofs.Laws.{number-below}
+use Rattle.vm_operands.specs.Numbers.{order, signed, numberOf}
+use Rattle.vm_operands.proofs.Laws.{signed-below, number-below}
 use Rattle.vm_operands.specs.declared.ImmediateValue.{ImmediateValue}
 use Rattle.vm_operands.specs.declared.ImmediateFound.{ImmediateFound}
 use Rattle.vm_operands.specs.declared.ImmediateFound.the-variants.{Is as IsNumber, Nothing as NoNumber}
 use Rattle.asm.specs.Parts.{Part}
-use Rattle.asm.specs.Operands.{Shape, withNumber, ofRegister, ofSpecial, shapes, firstMatch, inner}
+use Rattle.asm.specs.Operands.{hexNumeral, isNumeral, sourceNumber, Shape, withNumber, ofRegister, ofSpecial, shapes, firstMatch, inner}
 use Rattle.asm.specs.Rows.{rowOf}
 use Rattle.asm.specs.declared.OlaAsmOperand.{OlaAsmOperand}
 use Rattle.asm.specs.declared.OlaAsmOperand.the-variants.{Empty, ImmediateOperand, RegisterOperand, RegisterWithOffset, RegisterWithFactoredRegOffset, SpecialReg, Label, Identifier}
@@ -49,12 +49,14 @@ abbrev FoundBelow : ImmediateFound → Type 0
 FoundBelow (IsNumber v) = v .number < order
 FoundBelow NoNumber = Unit {0}
 
-found-below : (s : List ℕ) → FoundBelow (numberOf s)
-found-below s = go (numberOf s) refl
+found-below : (s : List ℕ) → FoundBelow (sourceNumber s)
+unfolding sourceNumber
+found-below s = go (isNumeral (hexNumeral s)) (sourceNumber s) refl
   where
-    go : (x : ImmediateFound) → numberOf s ≡ x → FoundBelow x
-    go (IsNumber v) e = number-below s v e
-    go NoNumber e = tt
+    go : (t : Bool) (x : ImmediateFound) → cond t (signed false (hexNumeral s)) (numberOf s) ≡ x → FoundBelow x
+    go true (IsNumber v) e = signed-below false (hexNumeral s) v e
+    go false (IsNumber v) e = number-below s v e
+    go t NoNumber e = tt
 
 -- ---- an operand read
 
@@ -78,12 +80,12 @@ ShapeBelow s = (q : Part) → OperandHolds OperandBelow (s .means q)
 shapes-below : All ShapeBelow shapes
 unfolding shapes
 shapes-below =
-    one-more (λ q. with-number _ (λ v h. h) (numberOf (inner (q .text) 7)) (found-below (inner (q .text) 7)))
+    one-more (λ q. with-number _ (λ v h. h) (sourceNumber (inner (q .text) 7)) (found-below (inner (q .text) 7)))
     (one-more (λ q. lit< tt)
     (one-more (λ q. lit< tt)
-    (one-more (λ q. with-number _ (λ v h. h) (numberOf (inner (q .text) 4)) (found-below (inner (q .text) 4)))
+    (one-more (λ q. with-number _ (λ v h. h) (sourceNumber (inner (q .text) 4)) (found-below (inner (q .text) 4)))
     (one-more (λ q. of-register (registerOf (q .text)))
-    (one-more (λ q. with-number ImmediateOperand (λ v h. h) (numberOf (q .text)) (found-below (q .text)))
+    (one-more (λ q. with-number ImmediateOperand (λ v h. h) (sourceNumber (q .text)) (found-below (q .text)))
     (one-more (λ q. tt)
     (one-more (λ q. of-special (specialOf (q .text)))
     (one-more (λ q. tt)

@@ -12,12 +12,12 @@ use Rattle.text.proofs.Laws.{told-not-true, told-not-false, part-slice}
 use Rattle.vm_hardware.specs.declared.OlaRegister.{OlaRegister}
 use Rattle.vm_hardware.specs.declared.RegisterFound.{RegisterFound}
 use Rattle.vm_hardware.specs.declared.RegisterFound.the-variants.{Is as IsRegister, Nothing as NoRegister}
-use Rattle.vm_operands.specs.Numbers.{immediate, numberOf}
+use Rattle.vm_operands.specs.Numbers.{immediate}
 use Rattle.vm_operands.specs.declared.ImmediateValue.{ImmediateValue}
 use Rattle.vm_operands.specs.declared.ImmediateFound.{ImmediateFound}
 use Rattle.vm_operands.specs.declared.ImmediateFound.the-variants.{Is as IsNumber, Nothing as NoNumber}
 use Rattle.asm.specs.Parts.{Part}
-use Rattle.asm.specs.Operands.{Shape, byteIs, inner, isBracketed, isRegisterAt, registerOfPlace, isSourceNumber, withNumber, factored, paired, bare, offset, register, number}
+use Rattle.asm.specs.Operands.{Shape, byteIs, inner, isBracketed, isRegisterAt, registerOfPlace, isSourceNumber, sourceNumber, withNumber, factored, paired, bare, offset, register, number}
 use Rattle.asm.specs.declared.OlaAsmOperand.{OlaAsmOperand}
 use Rattle.asm.specs.declared.OlaAsmOperand.the-variants.{RegisterWithOffset, RegisterWithFactoredRegOffset}
 use Rattle.asm.specs.declared.OperandRead.{OperandRead}
@@ -121,25 +121,25 @@ source-other true NoNumber e = let z : _≡_ {A = ℕ} 0 1 = cc in absurd (omega
 source-other false f e = refl
 
 -- a shape that a piece has exactly where a part y of it is a number
-module _ (s : Shape) (q : Part) (f : ImmediateValue → OlaAsmOperand) (y : List ℕ) (i : s .fits (q .text) ≡ isSourceNumber y) (m : s .means q ≡ withNumber f (numberOf y)) (n : SourceNumber) (e : n ≡ sourceNumberOf y) where
+module _ (s : Shape) (q : Part) (f : ImmediateValue → OlaAsmOperand) (y : List ℕ) (i : s .fits (q .text) ≡ isSourceNumber y) (m : s .means q ≡ withNumber f (sourceNumber y)) (n : SourceNumber) (e : n ≡ sourceNumberOf y) where
   -- in range it is the operand made of the number
   pub numbered-is : (v : ImmediateValue) → n ≡ IsSource v → Fits (Is (f v)) ≡ tried s q
   unfolding sourceNumberOf
   numbered-is v h =
-      let w = source-is (isSourceNumber y) (numberOf y) v (sym e ∙ h) in
+      let w = source-is (isSourceNumber y) (sourceNumber y) v (sym e ∙ h) in
       tried-fits s q (Is (f v)) (i ∙ w .0) (sym (m ∙ ap (withNumber f) (w .1)))
 
   -- out of range it is no operand
   pub numbered-over : n ≡ OutOfRange → Fits Unreadable ≡ tried s q
   unfolding sourceNumberOf
   numbered-over h =
-      let w = source-over (isSourceNumber y) (numberOf y) (sym e ∙ h) in
+      let w = source-over (isSourceNumber y) (sourceNumber y) (sym e ∙ h) in
       tried-fits s q Unreadable (i ∙ w .0) (sym (m ∙ ap (withNumber f) (w .1)))
 
   -- where the part is no number the piece has another shape
   pub numbered-other : n ≡ NoSource → Other ≡ tried s q
   unfolding sourceNumberOf
-  numbered-other h = tried-other s q (i ∙ source-other (isSourceNumber y) (numberOf y) (sym e ∙ h))
+  numbered-other h = tried-other s q (i ∙ source-other (isSourceNumber y) (sourceNumber y) (sym e ∙ h))
 
 -- ---- the bracketed shapes
 
@@ -229,7 +229,7 @@ module _ (x : List ℕ) (r : RegisterFound) (e : r ≡ anchorOf x) (a : OlaRegis
         offset-by = rw (anchor .0, told-not-false t _ f g)
 
         -- what it is, by the register found
-        offset-means : offset .means (placed 0 x) ≡ withNumber (λ v. RegisterWithOffset a v) (numberOf (inner x 4))
+        offset-means : offset .means (placed 0 x) ≡ withNumber (λ v. RegisterWithOffset a v) (sourceNumber (inner x 4))
         offset-means = rw (anchor .1)
 
         -- what was read is n
@@ -301,7 +301,7 @@ module _ (x : List ℕ) (r : RegisterFound) (e : r ≡ anchorOf x) (a : OlaRegis
             factored-by = rw (anchor .0, second .0, told-not-false t _ f g)
 
             -- what it is, by the registers found
-            factored-means : factored .means (placed 0 x) ≡ withNumber (λ v. RegisterWithFactoredRegOffset a b v) (numberOf (inner x 7))
+            factored-means : factored .means (placed 0 x) ≡ withNumber (λ v. RegisterWithFactoredRegOffset a b v) (sourceNumber (inner x 7))
             factored-means = rw (anchor .1, second .1)
 
             -- what was read is n

@@ -2,10 +2,10 @@
 use Prim.Native.Nat.{ℕ, suc, _+_, _-_, _^_, _<_, _≤_}
 use mathlib.Core.Path.{_≡_, refl, sym, ap, _∙_}
 use mathlib.Core.List.{List, [], _∷_}
-use mathlib.Core.Bool.{Bool, true, false, not, _&&_, and-false}
+use mathlib.Core.Bool.{Bool, true, false, not, _&&_, _||_, cond, and-false, or-true}
 use native.Mathlib.Omega.{arith}
 use borrow.Author.Needs.{needs}
-use borrow.Author.Tests.{lt-ltb, eq-eqb, ne-eqb, eqb-true, eqb-false}
+use borrow.Author.Tests.{lt-ltb, le-ltb, eq-eqb, ne-eqb, eqb-true, eqb-false}
 use mir.Val.{Fits}
 use mir.Syntax.{w64}
 use lib.Dec.{eqb, ltb}
@@ -16,15 +16,19 @@ use Rattle.text.specs.Scan.{scan, all}
 use Rattle.text.specs.Classes.{holds}
 use Rattle.text.specs.declared.ByteClass.the-variants.{Digit, Letter, Word, Is as IsByte}
 use Rattle.text.proofs.Laws.{scan-all, all-scan, part-from, scan-within, told-not-true, told-not-false}
+use Rattle.text_read.specs.Numerals.{numeral}
+use Rattle.text_read.specs.declared.Numeral.{Numeral}
+use Rattle.text_read.specs.declared.Numeral.the-variants.{Value, Nothing as NoNumeral}
 use Rattle.vm_hardware.specs.Registers.{registerOf}
 use Rattle.vm_hardware.specs.declared.RegisterFound.{RegisterFound}
 use Rattle.vm_hardware.specs.declared.RegisterFound.the-variants.{Nothing as NoRegister}
-use Rattle.vm_operands.specs.Numbers.{numberOf}
+use Rattle.vm_operands.specs.Numbers.{unsigned, signed, numberOf}
 use Rattle.vm_operands.specs.declared.ImmediateValue.{ImmediateValue}
 use Rattle.vm_operands.specs.declared.ImmediateFound.{ImmediateFound}
 use Rattle.vm_operands.specs.declared.ImmediateFound.the-variants.{Is as IsNumber, Nothing as NoNumber}
-use Rattle.asm.specs.Operands.{byteIs, isDigits, isPair, isName, isSourceNumber}
+use Rattle.asm.specs.Operands.{byteIs, isDigits, isPair, isName, hexNumeral, isSourceNumber, sourceNumber}
 use Rattle.asm_shapes.specs.Shapes.{registerFoundAt, inRange, sourceNumberOf}
+use Rattle.asm_shapes.specs.declared.SourceNumber.{SourceNumber}
 use Rattle.asm_shapes.specs.declared.SourceNumber.the-variants.{Is, OutOfRange, Other}
 
 -- a test of equality, the other way round
@@ -173,46 +177,84 @@ module _ (x : List ℕ) (k : ℕ) where
 
 pub ruleset register-laws = (register-short, register-over, register-there)
 
--- no text, no number
-pub source-none : (x : List ℕ) → length x ≡ 0 → false ≡ isSourceNumber x
-source-none [] h = refl
-source-none (y ∷ ys) h = absurd (omega arith)
+-- no text, no decimal digits
+pub decimal-none : (x : List ℕ) → length x ≡ 0 → false ≡ isDigits (unsigned x)
+decimal-none [] h = refl
+decimal-none (y ∷ ys) h = absurd (omega arith)
 
--- a number where digits follow the sign, or stand without one
+-- a decimal number where digits follow the sign, or stand without one
 module _ (x : List ℕ) (r : Bool) where
   -- after `-`
-  pub source-minus : getD x 0 0 ≡ 45 → r ≡ isDigits (take (length x - 1) (drop 1 x)) → r ≡ isSourceNumber x
-  source-minus h e = rw (eq-eqb _ _ h) (e ∙ ap isDigits (part-from 1 x))
+  pub decimal-minus : getD x 0 0 ≡ 45 → r ≡ isDigits (take (length x - 1) (drop 1 x)) → r ≡ isDigits (unsigned x)
+  decimal-minus h e = rw (eq-eqb _ _ h) (e ∙ ap isDigits (part-from 1 x))
 
   -- after `+`
-  pub source-plus : (getD x 0 0 ≡ 45 → ⊥) → getD x 0 0 ≡ 43 → r ≡ isDigits (take (length x - 1) (drop 1 x)) → r ≡ isSourceNumber x
-  source-plus h k e = rw (ne-eqb _ _ h, eq-eqb _ _ k) (e ∙ ap isDigits (part-from 1 x))
+  pub decimal-plus : (getD x 0 0 ≡ 45 → ⊥) → getD x 0 0 ≡ 43 → r ≡ isDigits (take (length x - 1) (drop 1 x)) → r ≡ isDigits (unsigned x)
+  decimal-plus h k e = rw (ne-eqb _ _ h, eq-eqb _ _ k) (e ∙ ap isDigits (part-from 1 x))
 
   -- without a sign
-  pub source-bare : (getD x 0 0 ≡ 45 → ⊥) → (getD x 0 0 ≡ 43 → ⊥) → r ≡ isDigits x → r ≡ isSourceNumber x
-  source-bare h k e = rw (ne-eqb _ _ h, ne-eqb _ _ k) e
+  pub decimal-bare : (getD x 0 0 ≡ 45 → ⊥) → (getD x 0 0 ≡ 43 → ⊥) → r ≡ isDigits x → r ≡ isDigits (unsigned x)
+  decimal-bare h k e = rw (ne-eqb _ _ h, ne-eqb _ _ k) e
 
-pub ruleset source-laws = (source-none, source-minus, source-plus, source-bare)
+pub ruleset decimal-laws = (decimal-none, decimal-minus, decimal-plus, decimal-bare)
 
--- a number, by whether it has the shape and what its digits said
-module _ (x : List ℕ) (t : Bool) (e : t ≡ isSourceNumber x) where
-  -- another shape
-  pub number-other : not t ≡ true → Other ≡ sourceNumberOf x
-  unfolding sourceNumberOf
-  number-other h = sym (rw (told-not-true t _ e h))
+-- `0x` and digits, at each return
+module _ (x : List ℕ) where
+  -- too few bytes for a digit
+  pub hex-short : length x < 3 → NoNumeral ≡ hexNumeral x
+  unfolding numeral
+  hex-short h = go x h
+    where
+      go : (x : List ℕ) → length x < 3 → NoNumeral ≡ hexNumeral x
+      go [] h = refl
+      go (a ∷ []) h = rw (and-false (eqb a 48))
+      go (a ∷ b ∷ []) h = either (eqb a 48 && eqb b 120)
+        where
+          either : (t : Bool) → NoNumeral ≡ cond (t && true) NoNumeral NoNumeral
+          either true = refl
+          either false = refl
+      go (a ∷ b ∷ c ∷ r) h = absurd (omega arith)
 
-  module _ (h : not t ≡ false) (r : ImmediateFound) (f : r ≡ numberOf x) where
-    -- the shape: what it is goes by what its digits said
-    told : sourceNumberOf x ≡ inRange r
-    unfolding sourceNumberOf
-    told = rw (told-not-false t _ e h) (ap inRange (sym f))
+  -- no `0`, no `x`
+  pub hex-zero : (getD x 0 0 ≡ 48 → ⊥) → NoNumeral ≡ hexNumeral x
+  hex-zero h = rw (ne-eqb _ _ h)
 
-    -- in range
-    pub number-is : (v : ImmediateValue) → r ≡ IsNumber v → Is v ≡ sourceNumberOf x
-    number-is v g = sym (told ∙ ap inRange g)
+  pub hex-x : (getD x 1 0 ≡ 120 → ⊥) → NoNumeral ≡ hexNumeral x
+  hex-x h = rw (ne-eqb _ _ h, and-false (byteIs x 0 48))
 
-    -- out of range
-    pub number-over : r ≡ NoNumber → OutOfRange ≡ sourceNumberOf x
-    number-over g = sym (told ∙ ap inRange g)
+  -- more than sixteen digits
+  pub hex-long : 18 < length x → NoNumeral ≡ hexNumeral x
+  hex-long h = rw (le-ltb (length x) 19 (omega arith), and-false (byteIs x 0 48 && byteIs x 1 120))
 
-pub ruleset number-laws = (number-other, number-is, number-over)
+  -- what the digits say
+  pub hex-digits : length x ≤ 18 → getD x 0 0 ≡ 48 → getD x 1 0 ≡ 120 → (r : Numeral) → r ≡ numeral 16 (2 ^ 64) (take (length x - 2) (drop 2 x)) → r ≡ hexNumeral x
+  hex-digits h k l r e = e ∙ rw (part-from 2 x, eq-eqb _ _ k, eq-eqb _ _ l, lt-ltb (length x) 19 (omega arith))
+
+pub ruleset hex-laws = (hex-short, hex-zero, hex-x, hex-long, hex-digits, needs)
+
+-- what was read and is in range
+pub range-is : (f : ImmediateFound) (v : ImmediateValue) → f ≡ IsNumber v → Is v ≡ inRange f
+range-is f v e = rw e
+
+pub ruleset range-laws = (range-is)
+
+-- a number, by what its hexadecimal digits said
+module _ (x : List ℕ) (n : Numeral) (e : n ≡ hexNumeral x) where
+  -- a value
+  pub number-hex : (v : ℕ) → n ≡ Value v → (r : ImmediateFound) → r ≡ signed false (Value v) → (o : SourceNumber) → o ≡ inRange r → o ≡ sourceNumberOf x
+  unfolding sourceNumberOf isSourceNumber sourceNumber
+  number-hex v h r f o g = g ∙ ap inRange f ∙ sym (rw (← e, h, or-true (isDigits (unsigned x))))
+
+  -- none, by whether there are decimal digits
+  module _ (h : n ≡ NoNumeral) (t : Bool) (f : t ≡ isDigits (unsigned x)) where
+    -- another shape
+    pub number-other : not t ≡ true → Other ≡ sourceNumberOf x
+    unfolding sourceNumberOf isSourceNumber
+    number-other g = sym (rw (← e, h, told-not-true t _ f g))
+
+    -- what the digits said
+    pub number-decimal : not t ≡ false → (r : ImmediateFound) → r ≡ numberOf x → (o : SourceNumber) → o ≡ inRange r → o ≡ sourceNumberOf x
+    unfolding sourceNumberOf isSourceNumber sourceNumber
+    number-decimal g r k o l = l ∙ ap inRange k ∙ sym (rw (← e, h, told-not-false t _ f g))
+
+pub ruleset number-laws = (number-hex, number-other, number-decimal)

@@ -1,12 +1,14 @@
 // What operand shapes and label rows are made of: a byte at a place, digits, a pair of digits, a name, a register at a place, a number.
 // Every function takes a piece or a part of one and requires nothing of it.
 use text::ByteClass;
+use text_read::Numeral;
 use vm_hardware::RegisterFound;
 use vm_operands::ImmediateFound;
 use vm_operands::ImmediateValue;
 ghost use mathlib.Core.Path.{_≡_};
-ghost use Rattle.asm.specs.Operands.{byteIs, isDigits, isPair, isName, isSourceNumber};
-ghost use Rattle.asm_shapes.specs.Shapes.{registerFoundAt, sourceNumberOf};
+ghost use Rattle.vm_operands.specs.Numbers.{unsigned};
+ghost use Rattle.asm.specs.Operands.{byteIs, isDigits, isPair, isName, hexNumeral};
+ghost use Rattle.asm_shapes.specs.Shapes.{registerFoundAt, inRange, sourceNumberOf};
 
 // What a text says as the number n of a shape: a number, one that is out of range, or no number.
 pub enum SourceNumber {
@@ -83,9 +85,28 @@ pub fn register_at(text: &[u8], k: usize) -> RegisterFound
     vm_registers::register_from_str(&text[k..k + 2])
 }
 
+// `0x` and one to sixteen hexadecimal digits of either case: their value.
+fn hex_numeral(text: &[u8]) -> Numeral
+    ensures { λ r. ⌜ r ≡ hexNumeral (now (text .entry)) ⌝ }
+{
+    if text.len() < 3 {
+        return Numeral::Nothing;
+    }
+    if text[0] != b'0' {
+        return Numeral::Nothing;
+    }
+    if text[1] != b'x' {
+        return Numeral::Nothing;
+    }
+    if 18 < text.len() {
+        return Numeral::Nothing;
+    }
+    text_read::read_hex_digits(&text[2..], 0xFFFF_FFFF_FFFF_FFFF)
+}
+
 // An optional sign and decimal digits.
-fn is_source_number(text: &[u8]) -> bool
-    ensures { λ r. ⌜ r ≡ isSourceNumber (now (text .entry)) ⌝ }
+fn is_decimal(text: &[u8]) -> bool
+    ensures { λ r. ⌜ r ≡ isDigits (unsigned (now (text .entry))) ⌝ }
 {
     if text.len() == 0 {
         return false;
@@ -100,16 +121,26 @@ fn is_source_number(text: &[u8]) -> bool
     is_digits(text)
 }
 
+// A number that was read, or one that is out of range.
+fn in_range(found: ImmediateFound) -> SourceNumber
+    ensures { λ r. ⌜ r ≡ inRange found ⌝ }
+{
+    match found {
+        ImmediateFound::Is(value) => SourceNumber::Is(value),
+        ImmediateFound::Nothing => SourceNumber::OutOfRange,
+    }
+}
+
 // The number n of a shape.
 pub fn source_number(text: &[u8]) -> SourceNumber
     ensures { λ r. ⌜ r ≡ sourceNumberOf (now (text .entry)) ⌝ }
 {
-    if !is_source_number(text) {
+    if let Numeral::Value(v) = hex_numeral(text) {
+        return in_range(ImmediateValue::from_sign(false, Numeral::Value(v)));
+    }
+    if !is_decimal(text) {
         return SourceNumber::Other;
     }
     // Lent anew: a slice that is only passed on is copied through memory.
-    match ImmediateValue::from_str(&text[..]) {
-        ImmediateFound::Is(value) => SourceNumber::Is(value),
-        ImmediateFound::Nothing => SourceNumber::OutOfRange,
-    }
+    in_range(ImmediateValue::from_str(&text[..]))
 }

@@ -12,7 +12,7 @@ use Rattle.vm_opcodes.specs.Operations.{operations, firstOperation}
 use Rattle.vm_hardware.specs.Registers.{registers, registerOf, specialOf}
 use Rattle.vm_operands.specs.Numbers.{signed, numberOf}
 use Rattle.asm.specs.Parts.{placed, filledParts, piecesFrom, linePieces, rowPieces, nameAt}
-use Rattle.asm.specs.Operands.{shapes, firstMatch}
+use Rattle.asm.specs.Operands.{isSourceNumber, sourceNumber, shapes, firstMatch}
 use Rattle.asm.specs.Rows.{arranged, operandsOf, arrangedIf, isCallRow, isPairRow, labelRow, rowOf, readRows, instructions}
 use Rattle.asm.specs.Survey.{countRows, firstCall, mainStart, mainEnd, surveyFrom, surveyOf, joinedSurveys, movedSurvey}
 use Rattle.asm.specs.declared.PlaceFound.the-variants.{At, Nothing}
@@ -37,7 +37,7 @@ cases =
 
 -- each text has the survey that it should have
 surveys-right : map (λ c. surveyOf (c .0)) cases ≡ map (λ c. c .1) cases
-unfolding cases isSpace isDigit isLetter isWord same total scan all parts _>>=_ digitValue valueFrom numeral operations firstOperation registers registerOf specialOf signed numberOf placed filledParts piecesFrom linePieces rowPieces nameAt shapes firstMatch arranged operandsOf arrangedIf isCallRow isPairRow labelRow rowOf readRows instructions countRows firstCall mainStart mainEnd surveyFrom
+unfolding cases isSpace isDigit isLetter isWord same total scan all parts _>>=_ digitValue valueFrom numeral operations firstOperation registers registerOf specialOf signed numberOf placed filledParts piecesFrom linePieces rowPieces nameAt isSourceNumber sourceNumber shapes firstMatch arranged operandsOf arrangedIf isCallRow isPairRow labelRow rowOf readRows instructions countRows firstCall mainStart mainEnd surveyFrom
 surveys-right = refl
 
 -- main's scope that runs on into the second text ends at its first call label; an unreadable row of the second is counted after the first's

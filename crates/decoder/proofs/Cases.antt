@@ -63,6 +63,12 @@ openCases =
     ∷ (bytes "0x4000000001000000\n0x10", ok (call 16 ∷ []))
     ∷ (bytes "0x4000000001000000\n0x0x10", ok (call 16 ∷ []))
     ∷ (bytes "0x4000000001000000\n0xFF", ok (call 255 ∷ []))
+    -- 02, Point 4: "Reading of bytecode is as before", any count of digits and a plus behind `0x` among it
+    ∷ (bytes "0x4000000001000000\n0x00000000000000005", ok (call 5 ∷ []))
+    ∷ (bytes "0x4000000001000000\n0x0x5", ok (call 5 ∷ []))
+    ∷ (bytes "0x4000000001000000\n0x+5", ok (call 5 ∷ []))
+    ∷ (bytes "0x4000000001000000\n-0x5", refused 18 0)
+    ∷ (bytes "0x4000000001000000\n16", ok (call 16 ∷ []))
     ∷ (bytes "0x4000000001000000\n-5", ok (call 18446744069414584316 ∷ []))
     ∷ (bytes "0x4000000001000000\n-0", ok (call 0 ∷ []))
     ∷ (bytes "0x4000000001000000\n0x-5", refused 18 0)

@@ -1,44 +1,40 @@
 -- The lines of a bytecode are those that were joined, and how long it is.
 use Prim.Native.Nat.{ℕ, suc, _+_, _-_, _*_, _^_, _<_, _≤_}
-use mathlib.Core.Path.{_≡_, refl, sym, ap, _∙_}
+use mathlib.Core.Path.{_≡_, refl, ap, _∙_}
 use mathlib.Core.List.{List, [], _∷_, _++_}
-use mathlib.Core.Bool.{Bool, true, false, _||_, and-eq-true-iff, true≢false, cond}
+use mathlib.Core.Bool.{Bool, true, false, _||_, and-eq-true-iff, cond}
 use mathlib.Core.Option.{Option, none, some}
 use native.Mathlib.Omega.{arith}
-use borrow.Author.Tests.{ne-eqb}
 use lib.Dec.{eqb}
 use lib.ListN.{length, getD, length-append}
 use Rattle.text.specs.Bytes.{isDigit}
 use Rattle.text.specs.Scan.{all, parts, isEmpty}
 use Rattle.text.specs.Lines.{isFeed, withoutReturn, ended, lines}
 use Rattle.text.specs.All.{All, none-left, one-more}
+use Rattle.text.proofs.Laws.{other-byte}
 use Rattle.text_read.specs.Numerals.{digitValue, isDigitOf}
 use Rattle.text_write.specs.Digits.{digitsOf, digitCount, prefixedText, fewestText, sixteenText}
 use Rattle.text_write.proofs.Laws.{length-sixteen, fewest-most}
+use Rattle.vm_operands.proofs.DigitLaws.{digits-all}
 use Rattle.program.specs.Groups.{grouped, hasSecond}
 use Rattle.program.specs.Bytecode.{linesOfGroups, wordLines, joined, bytecodeOf}
-use Rattle.decoder.proofs.TextLaws.{digits-all}
 
 -- ---- joining and splitting undo each other for lines that are not empty and whose bytes pass a test that neither ending passes
 module _ (p : ℕ → Bool) (feed : p 10 ≡ false) (return : p 13 ≡ false) where
-  -- a byte that passes is not one that does not
-  not-byte : (x b : ℕ) → p x ≡ true → p b ≡ false → eqb x b ≡ false
-  not-byte x b h k = ne-eqb x b (λ q. true≢false (sym h ∙ ap p q ∙ k))
-
   -- one line in front of a feed, and one alone
   front-part : (l rest : List ℕ) → all p l ≡ true → parts isFeed (l ++ 10 ∷ rest) ≡ l ∷ parts isFeed rest
   unfolding all parts
   front-part [] rest h = refl
   front-part (x ∷ l) rest h =
       let a = and-eq-true-iff (p x) (all p l) .0 h in
-      rw (not-byte x 10 (a .0) feed, front-part l rest (a .1))
+      rw (other-byte p x 10 (a .0) feed, front-part l rest (a .1))
 
   lone-part : (l : List ℕ) → all p l ≡ true → parts isFeed l ≡ l ∷ []
   unfolding all parts
   lone-part [] h = refl
   lone-part (x ∷ l) h =
       let a = and-eq-true-iff (p x) (all p l) .0 h in
-      rw (not-byte x 10 (a .0) feed, lone-part l (a .1))
+      rw (other-byte p x 10 (a .0) feed, lone-part l (a .1))
 
   last-passes : (x : ℕ) (l : List ℕ) → all p (x ∷ l) ≡ true → p (getD (x ∷ l) (length l) 0) ≡ true
   unfolding all
@@ -49,7 +45,7 @@ module _ (p : ℕ → Bool) (feed : p 10 ≡ false) (return : p 13 ≡ false) wh
   return-none [] h = refl
   return-none (x ∷ l) h =
       let e : suc (length l) - 1 ≡ length l = omega arith in
-      rw (e, not-byte (getD (x ∷ l) (length l) 0) 13 (last-passes x l h) return)
+      rw (e, other-byte p (getD (x ∷ l) (length l) 0) 13 (last-passes x l h) return)
 
   abbrev Whole : List ℕ → Type 0
   Whole l = (isEmpty l ≡ false) × (all p l ≡ true)

@@ -14,7 +14,7 @@ use Rattle.vm_opcodes.specs.Operations.{operations, firstOperation}
 use Rattle.vm_hardware.specs.Registers.{registers, registerOf, specialOf}
 use Rattle.vm_operands.specs.Numbers.{signed, numberOf}
 use Rattle.asm.specs.Parts.{placed, filledParts, piecesFrom, linePieces, rowPieces, nameAt}
-use Rattle.asm.specs.Operands.{shapes, firstMatch}
+use Rattle.asm.specs.Operands.{isSourceNumber, sourceNumber, shapes, firstMatch}
 use Rattle.asm.specs.Rows.{arranged, operandsOf, arrangedIf, isCallRow, isPairRow, labelRow, rowOf, instructions, readRows}
 use Rattle.relocate.specs.Scopes.{cutAtCalls, scopesThat, rowsOfScopes}
 use Rattle.relocate.specs.Labels.{labelRows, holder}
@@ -64,6 +64,17 @@ wordCases =
     ∷ (bytes "f:\njmp 5LBL1_2", refused 3 1)
     ∷ (bytes "main:\nmain:\njmp 5LBL1_2", refused 3 2)
     ∷ (bytes "main:\njmp 5LBL1_2\nbad", refused 3 1)
+    -- 02, Point 4: n "may now have `0x`" and digits
+    ∷ (bytes "main:\nmov r1 0xaBcD", ok (0x4000000208000000 ∷ 0xabcd ∷ []))
+    ∷ (bytes "main:\nmov r1 0xffffffff00000000", ok (0x4000000208000000 ∷ 18446744069414584320 ∷ []))
+    ∷ (bytes "main:\nmload r1 [r2,0xA]", ok (0x4040000200400000 ∷ 10 ∷ []))
+    ∷ (bytes "main:\nmstore [r1,r2,0xa] r3", ok (0x0020100800200000 ∷ 10 ∷ []))
+    ∷ (bytes "main:\ncall 0x5\n0x5:\nret", ok (0x4000000001000000 ∷ 5 ∷ 0x800000 ∷ []))
+    ∷ (bytes "main:\nmov 0x5 r1", refused 12 0)
+    ∷ (bytes "main:\nadd r1 0x5 r2", refused 12 0)
+    ∷ (bytes "main:\nmov r0x1 5", refused 10 0)
+    ∷ (bytes "main:\nmov r1 0xffffffff00000001", refused 3 1)
+    ∷ (bytes "main:\nend\nmload r1 [r2,0xffffffff00000001]", refused 3 2)
     -- READING 9: names in op0 and dst are looked up before 12 is asked
     ∷ (bytes "main:\nmov g r1", refused 10 0)
     ∷ (bytes "main:\nmov main r1", refused 12 0)
@@ -146,25 +157,25 @@ printCases =
     ∷ []
 
 words-right : map (λ c. wordsOk (assembled (c .0) [] (room 9 9 9))) wordCases ≡ map (λ c. c .1) wordCases
-unfolding isSpace isDigit isLetter isWord same total scan all parts _>>=_ _>>_ refuseIf refuseAt onOk digitValue valueFrom numeral digitsOf digitCount operations firstOperation registers registerOf specialOf signed numberOf placed filledParts piecesFrom linePieces rowPieces shapes firstMatch arranged operandsOf arrangedIf isCallRow isPairRow labelRow rowOf nameAt cutAtCalls scopesThat rowsOfScopes instructions labelRows holder withoutLastEmpty labelsAfterHead listedLabels hostsFrom isIn keptFrom firstAbove127 readRows rowsRead sortedOf tabled hostsOf programWords grouped linesOfGroups general memory canonicalBy canonicalFrom firstMisplaced encodedRows assembled assembledTotals numberedLines printing
+unfolding isSpace isDigit isLetter isWord same total scan all parts _>>=_ _>>_ refuseIf refuseAt onOk digitValue valueFrom numeral digitsOf digitCount operations firstOperation registers registerOf specialOf signed numberOf placed filledParts piecesFrom linePieces rowPieces isSourceNumber sourceNumber shapes firstMatch arranged operandsOf arrangedIf isCallRow isPairRow labelRow rowOf nameAt cutAtCalls scopesThat rowsOfScopes instructions labelRows holder withoutLastEmpty labelsAfterHead listedLabels hostsFrom isIn keptFrom firstAbove127 readRows rowsRead sortedOf tabled hostsOf programWords grouped linesOfGroups general memory canonicalBy canonicalFrom firstMisplaced encodedRows assembled assembledTotals numberedLines printing
 words-right = refl
 
 rooms-right : map (λ c. assembledTotals (c .0) (c .1) (c .2)) roomCases ≡ map (λ c. c .3) roomCases
-unfolding isSpace isDigit isLetter isWord same total scan all parts _>>=_ _>>_ refuseIf refuseAt onOk digitValue valueFrom numeral digitsOf digitCount operations firstOperation registers registerOf specialOf signed numberOf placed filledParts piecesFrom linePieces rowPieces shapes firstMatch arranged operandsOf arrangedIf isCallRow isPairRow labelRow rowOf nameAt cutAtCalls scopesThat rowsOfScopes instructions labelRows holder withoutLastEmpty labelsAfterHead listedLabels hostsFrom isIn keptFrom firstAbove127 readRows rowsRead sortedOf tabled hostsOf programWords grouped linesOfGroups general memory canonicalBy canonicalFrom firstMisplaced encodedRows assembled assembledTotals numberedLines printing
+unfolding isSpace isDigit isLetter isWord same total scan all parts _>>=_ _>>_ refuseIf refuseAt onOk digitValue valueFrom numeral digitsOf digitCount operations firstOperation registers registerOf specialOf signed numberOf placed filledParts piecesFrom linePieces rowPieces isSourceNumber sourceNumber shapes firstMatch arranged operandsOf arrangedIf isCallRow isPairRow labelRow rowOf nameAt cutAtCalls scopesThat rowsOfScopes instructions labelRows holder withoutLastEmpty labelsAfterHead listedLabels hostsFrom isIn keptFrom firstAbove127 readRows rowsRead sortedOf tabled hostsOf programWords grouped linesOfGroups general memory canonicalBy canonicalFrom firstMisplaced encodedRows assembled assembledTotals numberedLines printing
 rooms-right = refl
 
 tables-right : map (λ c. tableLeft (c .0) (c .1)) tableCases ≡ map (λ c. c .2) tableCases
-unfolding isSpace isDigit isLetter isWord same total scan all parts _>>=_ _>>_ refuseIf refuseAt onOk digitValue valueFrom numeral digitsOf digitCount operations firstOperation registers registerOf specialOf signed numberOf placed filledParts piecesFrom linePieces rowPieces shapes firstMatch arranged operandsOf arrangedIf isCallRow isPairRow labelRow rowOf nameAt cutAtCalls scopesThat rowsOfScopes instructions labelRows holder withoutLastEmpty labelsAfterHead listedLabels hostsFrom isIn keptFrom firstAbove127 readRows rowsRead sortedOf tabled hostsOf programWords grouped linesOfGroups general memory canonicalBy canonicalFrom firstMisplaced encodedRows assembled assembledTotals numberedLines printing
+unfolding isSpace isDigit isLetter isWord same total scan all parts _>>=_ _>>_ refuseIf refuseAt onOk digitValue valueFrom numeral digitsOf digitCount operations firstOperation registers registerOf specialOf signed numberOf placed filledParts piecesFrom linePieces rowPieces isSourceNumber sourceNumber shapes firstMatch arranged operandsOf arrangedIf isCallRow isPairRow labelRow rowOf nameAt cutAtCalls scopesThat rowsOfScopes instructions labelRows holder withoutLastEmpty labelsAfterHead listedLabels hostsFrom isIn keptFrom firstAbove127 readRows rowsRead sortedOf tabled hostsOf programWords grouped linesOfGroups general memory canonicalBy canonicalFrom firstMisplaced encodedRows assembled assembledTotals numberedLines printing
 tables-right = refl
 
 words-left-right : map (λ c. wordsLeft (assembled (c .0) twoProphets (room 2 (c .1) (c .2))) lent) bufferCases ≡ map (λ c. c .3) bufferCases
-unfolding isSpace isDigit isLetter isWord same total scan all parts _>>=_ _>>_ refuseIf refuseAt onOk digitValue valueFrom numeral digitsOf digitCount operations firstOperation registers registerOf specialOf signed numberOf placed filledParts piecesFrom linePieces rowPieces shapes firstMatch arranged operandsOf arrangedIf isCallRow isPairRow labelRow rowOf nameAt cutAtCalls scopesThat rowsOfScopes instructions labelRows holder withoutLastEmpty labelsAfterHead listedLabels hostsFrom isIn keptFrom firstAbove127 readRows rowsRead sortedOf tabled hostsOf programWords grouped linesOfGroups general memory canonicalBy canonicalFrom firstMisplaced encodedRows assembled assembledTotals numberedLines printing
+unfolding isSpace isDigit isLetter isWord same total scan all parts _>>=_ _>>_ refuseIf refuseAt onOk digitValue valueFrom numeral digitsOf digitCount operations firstOperation registers registerOf specialOf signed numberOf placed filledParts piecesFrom linePieces rowPieces isSourceNumber sourceNumber shapes firstMatch arranged operandsOf arrangedIf isCallRow isPairRow labelRow rowOf nameAt cutAtCalls scopesThat rowsOfScopes instructions labelRows holder withoutLastEmpty labelsAfterHead listedLabels hostsFrom isIn keptFrom firstAbove127 readRows rowsRead sortedOf tabled hostsOf programWords grouped linesOfGroups general memory canonicalBy canonicalFrom firstMisplaced encodedRows assembled assembledTotals numberedLines printing
 words-left-right = refl
 
 hosts-left-right : map (λ c. hostsLeft (assembled (c .0) twoProphets (room 2 (c .1) (c .2))) lent) bufferCases ≡ map (λ c. c .4) bufferCases
-unfolding isSpace isDigit isLetter isWord same total scan all parts _>>=_ _>>_ refuseIf refuseAt onOk digitValue valueFrom numeral digitsOf digitCount operations firstOperation registers registerOf specialOf signed numberOf placed filledParts piecesFrom linePieces rowPieces shapes firstMatch arranged operandsOf arrangedIf isCallRow isPairRow labelRow rowOf nameAt cutAtCalls scopesThat rowsOfScopes instructions labelRows holder withoutLastEmpty labelsAfterHead listedLabels hostsFrom isIn keptFrom firstAbove127 readRows rowsRead sortedOf tabled hostsOf programWords grouped linesOfGroups general memory canonicalBy canonicalFrom firstMisplaced encodedRows assembled assembledTotals numberedLines printing
+unfolding isSpace isDigit isLetter isWord same total scan all parts _>>=_ _>>_ refuseIf refuseAt onOk digitValue valueFrom numeral digitsOf digitCount operations firstOperation registers registerOf specialOf signed numberOf placed filledParts piecesFrom linePieces rowPieces isSourceNumber sourceNumber shapes firstMatch arranged operandsOf arrangedIf isCallRow isPairRow labelRow rowOf nameAt cutAtCalls scopesThat rowsOfScopes instructions labelRows holder withoutLastEmpty labelsAfterHead listedLabels hostsFrom isIn keptFrom firstAbove127 readRows rowsRead sortedOf tabled hostsOf programWords grouped linesOfGroups general memory canonicalBy canonicalFrom firstMisplaced encodedRows assembled assembledTotals numberedLines printing
 hosts-left-right = refl
 
 prints-right : map (λ c. printing (c .0)) printCases ≡ map (λ c. c .1) printCases
-unfolding isSpace isDigit isLetter isWord same total scan all parts _>>=_ _>>_ refuseIf refuseAt onOk digitValue valueFrom numeral digitsOf digitCount operations firstOperation registers registerOf specialOf signed numberOf placed filledParts piecesFrom linePieces rowPieces shapes firstMatch arranged operandsOf arrangedIf isCallRow isPairRow labelRow rowOf nameAt cutAtCalls scopesThat rowsOfScopes instructions labelRows holder withoutLastEmpty labelsAfterHead listedLabels hostsFrom isIn keptFrom firstAbove127 readRows rowsRead sortedOf tabled hostsOf programWords grouped linesOfGroups general memory canonicalBy canonicalFrom firstMisplaced encodedRows assembled assembledTotals numberedLines printing
+unfolding isSpace isDigit isLetter isWord same total scan all parts _>>=_ _>>_ refuseIf refuseAt onOk digitValue valueFrom numeral digitsOf digitCount operations firstOperation registers registerOf specialOf signed numberOf placed filledParts piecesFrom linePieces rowPieces isSourceNumber sourceNumber shapes firstMatch arranged operandsOf arrangedIf isCallRow isPairRow labelRow rowOf nameAt cutAtCalls scopesThat rowsOfScopes instructions labelRows holder withoutLastEmpty labelsAfterHead listedLabels hostsFrom isIn keptFrom firstAbove127 readRows rowsRead sortedOf tabled hostsOf programWords grouped linesOfGroups general memory canonicalBy canonicalFrom firstMisplaced encodedRows assembled assembledTotals numberedLines printing
 prints-right = refl

@@ -1,4 +1,4 @@
-// Prints each piece of the rows on standard input with what it reads as: an operation, a register, a number, or another piece. The largest thing that runs until the printing program does.
+// Prints each piece of the rows on standard input with what it reads as: an operation, a register, a number, or another piece. Numbers are decimal ones, by vm_operands: a source's hexadecimal ones are read by asm_shapes, which it does not reach.
 use libc::STDIN_FILENO;
 use libc::STDOUT_FILENO;
 use text_write::Put;

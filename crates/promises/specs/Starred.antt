@@ -19,7 +19,7 @@ use Rattle.vm_operands.specs.declared.ImmediateFound.{ImmediateFound}
 use Rattle.vm_operands.specs.declared.ImmediateFound.the-variants.{Is, Nothing}
 use Rattle.vm_operands.specs.declared.OlaOperand.the-variants.{Empty, RegisterOperand}
 use Rattle.asm.specs.Parts.{placed, filledParts, piecesFrom, linePieces, rowPieces, nameAt}
-use Rattle.asm.specs.Operands.{shapes, firstMatch}
+use Rattle.asm.specs.Operands.{isSourceNumber, sourceNumber, shapes, firstMatch}
 use Rattle.asm.specs.Rows.{arranged, operandsOf, arrangedIf, isCallRow, isPairRow, labelRow, rowOf, instructions, readRows}
 use Rattle.relocate.specs.Scopes.{cutAtCalls, scopesThat, rowsOfScopes}
 use Rattle.relocate.specs.Labels.{labelRows, holder}
@@ -112,5 +112,5 @@ reading : (s : List ℕ) (is : List BinaryInstruction) → opened s ≡ ok is �
 reading s is e = (e, opened-run s is e)
 
 pub cases-hold : allSay cases
-unfolding isSpace isDigit isLetter isWord same scan all parts lines ended _>>=_ _>>_ refuseIf refuseAt digitValue valueFrom numeral unprefixed hexadecimal digitsOf digitCount operations firstOperation registers firstRegister registerOf specialOf signed numberOf placed filledParts piecesFrom linePieces rowPieces shapes firstMatch arranged operandsOf arrangedIf isCallRow isPairRow labelRow rowOf nameAt cutAtCalls scopesThat rowsOfScopes instructions labelRows total holder withoutLastEmpty labelsAfterHead listedLabels hostsFrom isIn keptFrom firstAbove127 readRows rowsRead sortedOf tabled hostsOf programWords grouped linesOfGroups joined general memory canonicalBy canonicalFrom firstMisplaced encodedRows assembled numberedLines printing completeOf firstUnreadable memoryBuilt builtWith onNumber onOperation onFirst allDecoded opened
+unfolding isSpace isDigit isLetter isWord same scan all parts lines ended _>>=_ _>>_ refuseIf refuseAt digitValue valueFrom numeral unprefixed hexadecimal digitsOf digitCount operations firstOperation registers firstRegister registerOf specialOf signed numberOf placed filledParts piecesFrom linePieces rowPieces isSourceNumber sourceNumber shapes firstMatch arranged operandsOf arrangedIf isCallRow isPairRow labelRow rowOf nameAt cutAtCalls scopesThat rowsOfScopes instructions labelRows total holder withoutLastEmpty labelsAfterHead listedLabels hostsFrom isIn keptFrom firstAbove127 readRows rowsRead sortedOf tabled hostsOf programWords grouped linesOfGroups joined general memory canonicalBy canonicalFrom firstMisplaced encodedRows assembled numberedLines printing completeOf firstUnreadable memoryBuilt builtWith onNumber onOperation onFirst allDecoded opened
 cases-hold = (refl, (refl, (refl, (refl, (refl, (refl, (refl, (refl, (refl, (refl, (reading _ _ refl, (reading _ _ refl, (reading _ _ refl, (refl, (refl, (refl, (refl, (refl, (refl, (tt))))))))))))))))))))

@@ -15,7 +15,7 @@ use Rattle.vm_opcodes.specs.Operations.{operations, firstOperation}
 use Rattle.vm_hardware.specs.Registers.{registers, registerOf, specialOf}
 use Rattle.vm_operands.specs.Numbers.{signed, numberOf}
 use Rattle.asm.specs.Parts.{placed, filledParts, piecesFrom, linePieces, rowPieces, nameAt}
-use Rattle.asm.specs.Operands.{shapes, firstMatch}
+use Rattle.asm.specs.Operands.{isSourceNumber, sourceNumber, shapes, firstMatch}
 use Rattle.asm.specs.Rows.{arranged, operandsOf, arrangedIf, isCallRow, isPairRow, labelRow, rowOf, instructions, readRows}
 use Rattle.relocate.specs.Scopes.{cutAtCalls, scopesThat, rowsOfScopes}
 use Rattle.relocate.specs.Labels.{labelRows, holder, tableOf}
@@ -127,6 +127,10 @@ roomCases =
     -- nothing is looked up
     ∷ (bytes "main:\njmp nowhere", takes 1 1 2 2)
     ∷ (bytes "main:\ncall xLBL1_2", takes 1 1 2 2)
+    -- 02, Point 4: "the room figures follow it"
+    ∷ (bytes "main:\nmload r1 [r2,0xA]", takes 1 1 2 2)
+    ∷ (bytes "main:\ncall 0x5\n0x5:\nret", takes 2 2 3 3)
+    ∷ (bytes "main:\nmload r1 [r2,0xffffffff00000001]", refused 3 1)
     -- every label row counts, one that marks nothing and one whose name came before too
     ∷ (bytes "main:", takes 1 0 0 0)
     ∷ (bytes "main:\nf:\nf:\nend", takes 3 1 1 1)
@@ -145,15 +149,15 @@ roomCases =
 
 -- the cases are exported, since modules that export are checked first: a wrong definition is told by its case, then by the laws
 pub tables-right : map (λ c. tableWith (c .0) (c .1)) tableCases ≡ map (λ c. c .2) tableCases
-unfolding isSpace isDigit isLetter isWord same total scan all parts _>>=_ _>>_ refuseIf refuseAt digitValue valueFrom numeral operations firstOperation registers registerOf specialOf signed numberOf placed filledParts piecesFrom linePieces rowPieces shapes firstMatch arranged operandsOf arrangedIf isCallRow isPairRow labelRow rowOf nameAt cutAtCalls scopesThat rowsOfScopes instructions labelRows holder firstAbove127 readRows rowsRead sortedOf tabled
+unfolding isSpace isDigit isLetter isWord same total scan all parts _>>=_ _>>_ refuseIf refuseAt digitValue valueFrom numeral operations firstOperation registers registerOf specialOf signed numberOf placed filledParts piecesFrom linePieces rowPieces isSourceNumber sourceNumber shapes firstMatch arranged operandsOf arrangedIf isCallRow isPairRow labelRow rowOf nameAt cutAtCalls scopesThat rowsOfScopes instructions labelRows holder firstAbove127 readRows rowsRead sortedOf tabled
 tables-right = refl
 
 pub columns-right : map (λ c. columnLeft (tabled (c .0) (length (c .1))) addressIn (c .1)) columnCases ≡ map (λ c. c .2) columnCases
-unfolding isSpace isDigit isLetter isWord same total scan all parts _>>=_ _>>_ refuseIf refuseAt onOk digitValue valueFrom numeral operations firstOperation registers registerOf specialOf signed numberOf placed filledParts piecesFrom linePieces rowPieces shapes firstMatch arranged operandsOf arrangedIf isCallRow isPairRow labelRow rowOf nameAt cutAtCalls scopesThat rowsOfScopes instructions labelRows holder firstAbove127 readRows rowsRead sortedOf tabled
+unfolding isSpace isDigit isLetter isWord same total scan all parts _>>=_ _>>_ refuseIf refuseAt onOk digitValue valueFrom numeral operations firstOperation registers registerOf specialOf signed numberOf placed filledParts piecesFrom linePieces rowPieces isSourceNumber sourceNumber shapes firstMatch arranged operandsOf arrangedIf isCallRow isPairRow labelRow rowOf nameAt cutAtCalls scopesThat rowsOfScopes instructions labelRows holder firstAbove127 readRows rowsRead sortedOf tabled
 columns-right = refl
 
 pub hosts-right : map (λ c. hostsWith (c .0) (c .1)) hostCases ≡ map (λ c. c .2) hostCases
-unfolding isSpace isDigit isLetter isWord same total scan all parts _>>=_ _>>_ refuseIf refuseAt digitValue valueFrom numeral operations firstOperation registers registerOf specialOf signed numberOf placed filledParts piecesFrom linePieces rowPieces shapes firstMatch arranged operandsOf arrangedIf isCallRow isPairRow labelRow rowOf nameAt cutAtCalls scopesThat rowsOfScopes instructions labelRows holder withoutLastEmpty labelsAfterHead listedLabels hostsFrom isIn keptFrom firstAbove127 readRows rowsRead sortedOf hostsOf
+unfolding isSpace isDigit isLetter isWord same total scan all parts _>>=_ _>>_ refuseIf refuseAt digitValue valueFrom numeral operations firstOperation registers registerOf specialOf signed numberOf placed filledParts piecesFrom linePieces rowPieces isSourceNumber sourceNumber shapes firstMatch arranged operandsOf arrangedIf isCallRow isPairRow labelRow rowOf nameAt cutAtCalls scopesThat rowsOfScopes instructions labelRows holder withoutLastEmpty labelsAfterHead listedLabels hostsFrom isIn keptFrom firstAbove127 readRows rowsRead sortedOf hostsOf
 hosts-right = refl
 
 pub kept-right : map (λ c. keptFrom 0 (c .0)) keptCases ≡ map (λ c. c .1) keptCases
@@ -161,7 +165,7 @@ unfolding isIn keptFrom
 kept-right = refl
 
 pub rooms-right : map (λ c. roomOf (c .0)) roomCases ≡ map (λ c. c .1) roomCases
-unfolding isSpace isDigit isLetter isWord same total scan all parts _>>=_ _>>_ refuseIf refuseAt digitValue valueFrom numeral operations firstOperation registers registerOf specialOf signed numberOf placed filledParts piecesFrom linePieces rowPieces shapes firstMatch arranged operandsOf arrangedIf isCallRow isPairRow labelRow rowOf nameAt cutAtCalls scopesThat rowsOfScopes instructions labelRows firstAbove127 readRows rowsRead sortedOf roomOf
+unfolding isSpace isDigit isLetter isWord same total scan all parts _>>=_ _>>_ refuseIf refuseAt digitValue valueFrom numeral operations firstOperation registers registerOf specialOf signed numberOf placed filledParts piecesFrom linePieces rowPieces isSourceNumber sourceNumber shapes firstMatch arranged operandsOf arrangedIf isCallRow isPairRow labelRow rowOf nameAt cutAtCalls scopesThat rowsOfScopes instructions labelRows firstAbove127 readRows rowsRead sortedOf roomOf
 rooms-right = refl
 
 -- 1 and 8 stand before everything else, whatever the bytes are

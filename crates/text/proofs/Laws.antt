@@ -2,12 +2,13 @@
 use Prim.Native.Nat.{ℕ, zero, suc, _+_, _-_, _<_, _≤_}
 use mathlib.Core.Path.{_≡_, refl, sym, ap, _∙_}
 use mathlib.Core.List.{List, [], _∷_}
-use mathlib.Core.Bool.{Bool, true, false, cond, not, _&&_}
+use mathlib.Core.Bool.{Bool, true, false, cond, not, _&&_, and-eq-true-iff, true≢false}
 use native.Mathlib.Omega.{arith}
 use native.Mathlib.Numerals.{add-one, unary-clauses}
 use native.Mathlib.Nat.{zero-add, zero-sub, le-refl}
 use borrow.Author.Needs.{needs}
 use borrow.Author.Tests.{le-leb, lt-leb, lt-ltb, le-ltb, eq-eqb, ne-eqb, not-true, not-false}
+use lib.Dec.{eqb}
 use lib.ListN.{length, getD, take, drop, drop-of-length-le, length-drop}
 use lib.Seq.{slice, drop-cons, take-all, take-nil, length-take-le}
 use Rattle.text.specs.Scan.{scan, all}
@@ -117,3 +118,14 @@ all-scan p (x ∷ xs) h = go (p x) (all-scan p xs) h
     go : (t : Bool) → (scan p xs ≡ length xs → all p xs ≡ true) → cond t (suc (scan p xs)) 0 ≡ suc (length xs) → t && all p xs ≡ true
     go true f k = f (omega arith)
     go false f k = absurd (omega arith)
+
+-- a byte that passes a test is not one that does not
+pub other-byte : (p : ℕ → Bool) (x b : ℕ) → p x ≡ true → p b ≡ false → eqb x b ≡ false
+other-byte p x b h k = ne-eqb x b (λ q. true≢false (sym h ∙ ap p q ∙ k))
+
+-- which stands nowhere among bytes that pass, unless it is 0, as past their end
+pub nowhere-among : (p : ℕ → Bool) (s : List ℕ) (k b : ℕ) → all p s ≡ true → p b ≡ false → eqb 0 b ≡ false → eqb (getD s k 0) b ≡ false
+unfolding all
+nowhere-among p [] k b h f z = z
+nowhere-among p (x ∷ xs) zero b h f z = other-byte p x b (and-eq-true-iff (p x) (all p xs) .0 h .0) f
+nowhere-among p (x ∷ xs) (suc k) b h f z = nowhere-among p xs k b (and-eq-true-iff (p x) (all p xs) .0 h .1) f z

@@ -1,2 +1,3 @@
 pub mod Laws
+pub mod DigitLaws
 pub mod Cases

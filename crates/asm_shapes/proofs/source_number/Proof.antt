@@ -4,23 +4,35 @@ use borrow.Author.Needs.{needs}
 use Rattle.asm_shapes.proofs.source_number.Statement.{statement}
 use Rattle.asm_shapes.proofs.source_number.Tie as tie
 
-is-source-number-requires : tie.Need-is-source-number-requires
-is-source-number-requires c κs = search needs
+hex-numeral-requires : tie.Need-hex-numeral-requires
+hex-numeral-requires c κs = search needs
+
+enum-known-v : tie.Need-enum-known-v
+enum-known-v c = search needs
+
+from-sign-requires : tie.Need-from-sign-requires
+from-sign-requires c κs = search needs
+
+in-range-requires : tie.Need-in-range-requires
+in-range-requires c κs = search needs
 
 returns : tie.Need-returns
 returns c = search number-laws
 
-from-str-requires : tie.Need-from-str-requires
-from-str-requires c κs = search needs
-
-enum-known-value : tie.Need-enum-known-value
-enum-known-value c = search needs
-
 enum-told : tie.Need-enum-told
 enum-told c = search needs
 
+is-decimal-requires : tie.Need-is-decimal-requires
+is-decimal-requires c κs = search needs
+
 returns-2 : tie.Need-returns-2
 returns-2 c = search number-laws
+
+from-str-requires : tie.Need-from-str-requires
+from-str-requires c κs = search needs
+
+in-range-requires-2 : tie.Need-in-range-requires-2
+in-range-requires-2 c κs = search needs
 
 returns-3 : tie.Need-returns-3
 returns-3 c = search number-laws
@@ -29,10 +41,14 @@ pub source-number-spec : {M : Type 1} → statement M
 source-number-spec =
     tie.close
     (tie.spec
-    is-source-number-requires
+    hex-numeral-requires
+    enum-known-v
+    from-sign-requires
+    in-range-requires
     returns
-    from-str-requires
-    enum-known-value
     enum-told
+    is-decimal-requires
     returns-2
+    from-str-requires
+    in-range-requires-2
     returns-3)

@@ -1,11 +1,11 @@
--- `is_source_number` meets its contract.
-use Rattle.asm_shapes.proofs.Laws.{source-laws}
+-- `is_decimal` meets its contract.
+use Rattle.asm_shapes.proofs.Laws.{decimal-laws}
 use borrow.Author.Needs.{needs}
-use Rattle.asm_shapes.proofs.is_source_number.Statement.{statement}
-use Rattle.asm_shapes.proofs.is_source_number.Tie as tie
+use Rattle.asm_shapes.proofs.is_decimal.Statement.{statement}
+use Rattle.asm_shapes.proofs.is_decimal.Tie as tie
 
 returns : tie.Need-returns
-returns c = search source-laws
+returns c = search decimal-laws
 
 shared-slice-read-sign : tie.Need-shared-slice-read-sign
 shared-slice-read-sign c = search needs
@@ -23,7 +23,7 @@ is-digits-requires : tie.Need-is-digits-requires
 is-digits-requires c κs = search needs
 
 returns-2 : tie.Need-returns-2
-returns-2 c = search source-laws
+returns-2 c = search decimal-laws
 
 sub-is-digits-2 : tie.Need-sub-is-digits-2
 sub-is-digits-2 c = search needs
@@ -38,16 +38,16 @@ is-digits-requires-2 : tie.Need-is-digits-requires-2
 is-digits-requires-2 c κs = search needs
 
 returns-3 : tie.Need-returns-3
-returns-3 c = search source-laws
+returns-3 c = search decimal-laws
 
 is-digits-requires-3 : tie.Need-is-digits-requires-3
 is-digits-requires-3 c κs = search needs
 
 returns-4 : tie.Need-returns-4
-returns-4 c = search source-laws
+returns-4 c = search decimal-laws
 
-pub is-source-number-spec : {M : Type 1} → statement M
-is-source-number-spec =
+pub is-decimal-spec : {M : Type 1} → statement M
+is-decimal-spec =
     tie.close
     (tie.spec
     returns
