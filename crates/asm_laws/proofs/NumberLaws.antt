@@ -1,10 +1,9 @@
 -- Every number in an operand of a row that was read is below p.
 use Prim.Native.Nat.{ℕ, _<_, _-_}
-use mathlib.Core.Path.{_≡_, refl, subst}
+use mathlib.Core.Path.{_≡_, refl}
 use mathlib.Core.List.{List}
-use mathlib.Core.Bool.{Bool, true, false, _&&_, cond}
-use native.Mathlib.Omega.{arith}
-use lib.Dec.{ltb, lit<}
+use mathlib.Core.Bool.{Bool, true, false, cond}
+use lib.Dec.{lit<}
 use Rattle.text.specs.All.{All, none-left, one-more}
 use Rattle.vm_hardware.specs.Registers.{registerOf, specialOf}
 use Rattle.vm_hardware.specs.declared.RegisterFound.{RegisterFound}

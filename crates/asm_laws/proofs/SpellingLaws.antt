@@ -3,33 +3,32 @@
 use Prim.Native.Nat.{ℕ, _^_, _<_, _≤_}
 use mathlib.Core.Path.{_≡_, refl, sym, ap, _∙_}
 use mathlib.Core.List.{List, [], _∷_}
-use mathlib.Core.Bool.{Bool, true, false, not, _&&_, _||_, cond, and-false, and-eq-true-iff, true≢false}
+use mathlib.Core.Bool.{Bool, true, false, _&&_, _||_, cond, and-false, and-eq-true-iff, true≢false}
 use native.Mathlib.Omega.{arith}
 use native.Mathlib.Nat.{lt-trans}
-use borrow.Author.Tests.{lt-ltb, le-ltb, ltb-true, ltb-false, eqb-true}
+use borrow.Author.Tests.{lt-ltb, ltb-true, ltb-false, eqb-true}
 use lib.Dec.{eqb, ltb, lit<}
 use lib.ListN.{length, drop, getD}
 use Rattle.text.specs.Bytes.{isDigit}
 use Rattle.text.specs.Scan.{all, isEmpty}
 use Rattle.text.proofs.Laws.{nowhere-among}
-use Rattle.text_read.specs.Numerals.{valueFrom, numeral, decimal}
+use Rattle.text_read.specs.Numerals.{valueFrom, numeral}
 use Rattle.text_read.specs.declared.Numeral.{Numeral}
 use Rattle.text_read.specs.declared.Numeral.the-variants.{Value, Nothing as NoNumeral}
 use Rattle.text_read.proofs.Laws.{numeral-value, numeral-below}
-use Rattle.text_write.specs.Digits.{digitsOf, digitCount, prefixedText, decimalText}
+use Rattle.text_write.specs.Digits.{digitCount, prefixedText, decimalText}
 use Rattle.text_write.proofs.Laws.{length-decimal, length-prefixed, digitCount-positive, digitCount-enough}
-use Rattle.vm_operands.specs.Numbers.{order, immediate, unsigned, isSigned, isMinus, signed, numberOf}
-use Rattle.vm_operands.specs.declared.ImmediateFound.{ImmediateFound}
-use Rattle.vm_operands.specs.declared.ImmediateFound.the-variants.{Is, Nothing}
-use Rattle.vm_operands.proofs.DigitLaws.{digits-value, digits-read, digits-read-to, digits-over, decimal-digits}
+use Rattle.vm_operands.specs.Numbers.{order, immediate, unsigned, isMinus, signed, numberOf}
+use Rattle.vm_operands.specs.declared.ImmediateFound.the-variants.{Is}
+use Rattle.vm_operands.proofs.DigitLaws.{digits-read, digits-read-to, digits-over, decimal-digits}
 use Rattle.asm.specs.Operands.{byteIs, isDigits, hexNumeral, isNumeral, isSourceNumber, sourceNumber}
 
 -- ---- what changes, and what stays
 
 -- every text without "`0x` and one to sixteen hexadecimal digits" is n where it was, and the number that it was
-pub others-stay : (x : List ℕ) → isNumeral (hexNumeral x) ≡ false → (isSourceNumber x ≡ isDigits (unsigned x)) × (sourceNumber x ≡ numberOf x)
+pub numbers-stay : (x : List ℕ) → isNumeral (hexNumeral x) ≡ false → (isSourceNumber x ≡ isDigits (unsigned x)) × (sourceNumber x ≡ numberOf x)
 unfolding isSourceNumber sourceNumber
-others-stay x e = (rw e (or-false (isDigits (unsigned x))), rw e)
+numbers-stay x e = (rw e (or-false (isDigits (unsigned x))), rw e)
   where
     or-false : (t : Bool) → t || false ≡ t
     or-false true = refl

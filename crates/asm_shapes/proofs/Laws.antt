@@ -16,20 +16,20 @@ use Rattle.text.specs.Scan.{scan, all}
 use Rattle.text.specs.Classes.{holds}
 use Rattle.text.specs.declared.ByteClass.the-variants.{Digit, Letter, Word, Is as IsByte}
 use Rattle.text.proofs.Laws.{scan-all, all-scan, part-from, scan-within, told-not-true, told-not-false}
-use Rattle.text_read.specs.Numerals.{numeral}
+use Rattle.text_read.specs.Numerals.{numeral, decimal}
 use Rattle.text_read.specs.declared.Numeral.{Numeral}
 use Rattle.text_read.specs.declared.Numeral.the-variants.{Value, Nothing as NoNumeral}
 use Rattle.vm_hardware.specs.Registers.{registerOf}
 use Rattle.vm_hardware.specs.declared.RegisterFound.{RegisterFound}
 use Rattle.vm_hardware.specs.declared.RegisterFound.the-variants.{Nothing as NoRegister}
-use Rattle.vm_operands.specs.Numbers.{unsigned, signed, numberOf}
+use Rattle.vm_operands.specs.Numbers.{order, isMinus, unsigned, signed, numberOf}
 use Rattle.vm_operands.specs.declared.ImmediateValue.{ImmediateValue}
 use Rattle.vm_operands.specs.declared.ImmediateFound.{ImmediateFound}
-use Rattle.vm_operands.specs.declared.ImmediateFound.the-variants.{Is as IsNumber, Nothing as NoNumber}
+use Rattle.vm_operands.specs.declared.ImmediateFound.the-variants.{Is as IsNumber}
 use Rattle.asm.specs.Operands.{byteIs, isDigits, isPair, isName, hexNumeral, isSourceNumber, sourceNumber}
-use Rattle.asm_shapes.specs.Shapes.{registerFoundAt, inRange, sourceNumberOf}
+use Rattle.asm_shapes.specs.Shapes.{registerFoundAt, inRange, decimalOf, sourceNumberOf}
 use Rattle.asm_shapes.specs.declared.SourceNumber.{SourceNumber}
-use Rattle.asm_shapes.specs.declared.SourceNumber.the-variants.{Is, OutOfRange, Other}
+use Rattle.asm_shapes.specs.declared.SourceNumber.the-variants.{Is, Other}
 
 -- a test of equality, the other way round
 eqb-turned : (a b : ℕ) → eqb a b ≡ eqb b a
@@ -177,27 +177,6 @@ module _ (x : List ℕ) (k : ℕ) where
 
 pub ruleset register-laws = (register-short, register-over, register-there)
 
--- no text, no decimal digits
-pub decimal-none : (x : List ℕ) → length x ≡ 0 → false ≡ isDigits (unsigned x)
-decimal-none [] h = refl
-decimal-none (y ∷ ys) h = absurd (omega arith)
-
--- a decimal number where digits follow the sign, or stand without one
-module _ (x : List ℕ) (r : Bool) where
-  -- after `-`
-  pub decimal-minus : getD x 0 0 ≡ 45 → r ≡ isDigits (take (length x - 1) (drop 1 x)) → r ≡ isDigits (unsigned x)
-  decimal-minus h e = rw (eq-eqb _ _ h) (e ∙ ap isDigits (part-from 1 x))
-
-  -- after `+`
-  pub decimal-plus : (getD x 0 0 ≡ 45 → ⊥) → getD x 0 0 ≡ 43 → r ≡ isDigits (take (length x - 1) (drop 1 x)) → r ≡ isDigits (unsigned x)
-  decimal-plus h k e = rw (ne-eqb _ _ h, eq-eqb _ _ k) (e ∙ ap isDigits (part-from 1 x))
-
-  -- without a sign
-  pub decimal-bare : (getD x 0 0 ≡ 45 → ⊥) → (getD x 0 0 ≡ 43 → ⊥) → r ≡ isDigits x → r ≡ isDigits (unsigned x)
-  decimal-bare h k e = rw (ne-eqb _ _ h, ne-eqb _ _ k) e
-
-pub ruleset decimal-laws = (decimal-none, decimal-minus, decimal-plus, decimal-bare)
-
 -- `0x` and digits, at each return
 module _ (x : List ℕ) where
   -- too few bytes for a digit
@@ -238,23 +217,54 @@ range-is f v e = rw e
 
 pub ruleset range-laws = (range-is)
 
+-- decimal digits, by whether they are ones
+module _ (negative : Bool) (d : List ℕ) (t : Bool) (e : t ≡ isDigits d) where
+  -- another shape
+  pub decimal-other : not t ≡ true → Other ≡ decimalOf negative d
+  decimal-other h = sym (rw (told-not-true t _ e h))
+
+  -- what they say
+  pub decimal-is : not t ≡ false → (q : Numeral) → q ≡ decimal order d → (f : ImmediateFound) → f ≡ signed negative q → (o : SourceNumber) → o ≡ inRange f → o ≡ decimalOf negative d
+  decimal-is h q k f g o l = l ∙ ap inRange (g ∙ ap (signed negative) k) ∙ sym (rw (told-not-false t _ e h))
+
+pub ruleset decimal-laws = (decimal-other, decimal-is)
+
 -- a number, by what its hexadecimal digits said
 module _ (x : List ℕ) (n : Numeral) (e : n ≡ hexNumeral x) where
   -- a value
-  pub number-hex : (v : ℕ) → n ≡ Value v → (r : ImmediateFound) → r ≡ signed false (Value v) → (o : SourceNumber) → o ≡ inRange r → o ≡ sourceNumberOf x
+  pub number-hex : (v : ℕ) → n ≡ Value v → (f : ImmediateFound) → f ≡ signed false (Value v) → (o : SourceNumber) → o ≡ inRange f → o ≡ sourceNumberOf x
   unfolding sourceNumberOf isSourceNumber sourceNumber
-  number-hex v h r f o g = g ∙ ap inRange f ∙ sym (rw (← e, h, or-true (isDigits (unsigned x))))
+  number-hex v h f k o l = l ∙ ap inRange k ∙ sym (rw (← e, h, or-true (isDigits (unsigned x))))
 
-  -- none, by whether there are decimal digits
-  module _ (h : n ≡ NoNumeral) (t : Bool) (f : t ≡ isDigits (unsigned x)) where
-    -- another shape
-    pub number-other : not t ≡ true → Other ≡ sourceNumberOf x
-    unfolding sourceNumberOf isSourceNumber
-    number-other g = sym (rw (← e, h, told-not-true t _ f g))
+  -- none: decimal digits decide, behind their sign
+  module _ (h : n ≡ NoNumeral) where
+    told : sourceNumberOf x ≡ decimalOf (isMinus x) (unsigned x)
+    unfolding sourceNumberOf isSourceNumber sourceNumber numberOf
+    told = rw (← e, h, or-false (isDigits (unsigned x)))
+      where
+        or-false : (t : Bool) → t || false ≡ t
+        or-false true = refl
+        or-false false = refl
 
-    -- what the digits said
-    pub number-decimal : not t ≡ false → (r : ImmediateFound) → r ≡ numberOf x → (o : SourceNumber) → o ≡ inRange r → o ≡ sourceNumberOf x
-    unfolding sourceNumberOf isSourceNumber sourceNumber
-    number-decimal g r k o l = l ∙ ap inRange k ∙ sym (rw (← e, h, told-not-false t _ f g))
+    -- no text
+    pub number-none : length x ≡ 0 → Other ≡ sourceNumberOf x
+    number-none k = go x k ∙ sym told
+      where
+        go : (x : List ℕ) → length x ≡ 0 → Other ≡ decimalOf (isMinus x) (unsigned x)
+        go [] k = refl
+        go (y ∷ ys) k = absurd (omega arith)
 
-pub ruleset number-laws = (number-hex, number-other, number-decimal)
+    module _ (o : SourceNumber) where
+      -- after `-`
+      pub number-minus : getD x 0 0 ≡ 45 → o ≡ decimalOf true (take (length x - 1) (drop 1 x)) → o ≡ sourceNumberOf x
+      number-minus k l = l ∙ ap (decimalOf true) (part-from 1 x) ∙ sym (told ∙ rw (eq-eqb _ _ k))
+
+      -- after `+`
+      pub number-plus : (getD x 0 0 ≡ 45 → ⊥) → getD x 0 0 ≡ 43 → o ≡ decimalOf false (take (length x - 1) (drop 1 x)) → o ≡ sourceNumberOf x
+      number-plus k m l = l ∙ ap (decimalOf false) (part-from 1 x) ∙ sym (told ∙ rw (ne-eqb _ _ k, eq-eqb _ _ m))
+
+      -- without a sign
+      pub number-bare : (getD x 0 0 ≡ 45 → ⊥) → (getD x 0 0 ≡ 43 → ⊥) → o ≡ decimalOf false x → o ≡ sourceNumberOf x
+      number-bare k m l = l ∙ sym (told ∙ rw (ne-eqb _ _ k, ne-eqb _ _ m))
+
+pub ruleset number-laws = (number-hex, number-none, number-minus, number-plus, number-bare)

@@ -6,9 +6,8 @@ use vm_hardware::RegisterFound;
 use vm_operands::ImmediateFound;
 use vm_operands::ImmediateValue;
 ghost use mathlib.Core.Path.{_≡_};
-ghost use Rattle.vm_operands.specs.Numbers.{unsigned};
 ghost use Rattle.asm.specs.Operands.{byteIs, isDigits, isPair, isName, hexNumeral};
-ghost use Rattle.asm_shapes.specs.Shapes.{registerFoundAt, inRange, sourceNumberOf};
+ghost use Rattle.asm_shapes.specs.Shapes.{registerFoundAt, inRange, decimalOf, sourceNumberOf};
 
 // What a text says as the number n of a shape: a number, one that is out of range, or no number.
 pub enum SourceNumber {
@@ -104,23 +103,6 @@ fn hex_numeral(text: &[u8]) -> Numeral
     text_read::read_hex_digits(&text[2..], 0xFFFF_FFFF_FFFF_FFFF)
 }
 
-// An optional sign and decimal digits.
-fn is_decimal(text: &[u8]) -> bool
-    ensures { λ r. ⌜ r ≡ isDigits (unsigned (now (text .entry))) ⌝ }
-{
-    if text.len() == 0 {
-        return false;
-    }
-    let sign = text[0];
-    if sign == b'-' {
-        return is_digits(&text[1..]);
-    }
-    if sign == b'+' {
-        return is_digits(&text[1..]);
-    }
-    is_digits(text)
-}
-
 // A number that was read, or one that is out of range.
 fn in_range(found: ImmediateFound) -> SourceNumber
     ensures { λ r. ⌜ r ≡ inRange found ⌝ }
@@ -131,6 +113,19 @@ fn in_range(found: ImmediateFound) -> SourceNumber
     }
 }
 
+// Decimal digits behind a sign, or behind none.
+fn decimal_number(negative: bool, digits: &[u8]) -> SourceNumber
+    ensures { λ r. ⌜ r ≡ decimalOf negative (now (digits .entry)) ⌝ }
+{
+    if !is_digits(digits) {
+        return SourceNumber::Other;
+    }
+    in_range(ImmediateValue::from_sign(
+        negative,
+        text_read::read_decimal(digits, ImmediateValue::LARGEST),
+    ))
+}
+
 // The number n of a shape.
 pub fn source_number(text: &[u8]) -> SourceNumber
     ensures { λ r. ⌜ r ≡ sourceNumberOf (now (text .entry)) ⌝ }
@@ -138,9 +133,15 @@ pub fn source_number(text: &[u8]) -> SourceNumber
     if let Numeral::Value(v) = hex_numeral(text) {
         return in_range(ImmediateValue::from_sign(false, Numeral::Value(v)));
     }
-    if !is_decimal(text) {
+    if text.len() == 0 {
         return SourceNumber::Other;
     }
-    // Lent anew: a slice that is only passed on is copied through memory.
-    in_range(ImmediateValue::from_str(&text[..]))
+    let sign = text[0];
+    if sign == b'-' {
+        return decimal_number(true, &text[1..]);
+    }
+    if sign == b'+' {
+        return decimal_number(false, &text[1..]);
+    }
+    decimal_number(false, text)
 }

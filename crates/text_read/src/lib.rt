@@ -111,7 +111,7 @@ pub fn read_hex_digits(digits: &[u8], most: u64) -> Numeral
     read_digits(digits, 16, most)
 }
 
-// Hexadecimal digits after any `0x`, repeated or none, and an optional `+`; at most `most`.
+// Hexadecimal digits of either case after any `0x`, repeated or none, and an optional `+`; at most `most`.
 pub fn read_hexadecimal(text: &[u8], most: u64) -> Numeral
     ensures { λ r. ⌜ r ≡ hexadecimal (most + 1) (now (text .entry)) ⌝ }
 {
@@ -121,9 +121,12 @@ pub fn read_hexadecimal(text: &[u8], most: u64) -> Numeral
         return Numeral::Nothing;
     }
     if rest[0] == b'+' {
-        return read_hex_digits(&rest[1..], most);
+        return read_digits(&rest[1..], 16, most);
     }
-    read_hex_digits(rest, most)
+    if rest.len() == 16 {
+        return read_sixteen(rest, most);
+    }
+    read_digits(rest, 16, most)
 }
 
 // Decimal digits, one or more, any count of leading zeros, at most `most`.

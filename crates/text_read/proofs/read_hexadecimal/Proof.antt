@@ -22,26 +22,32 @@ returns c = search hex-laws
 shared-slice-read-if2 : tie.Need-shared-slice-read-if2
 shared-slice-read-if2 c = search hex-laws
 
-sub-read-hex-digits : tie.Need-sub-read-hex-digits
-sub-read-hex-digits c = search hex-laws
+sub-read-digits : tie.Need-sub-read-digits
+sub-read-digits c = search hex-laws
 
-part-read-hex-digits-start : tie.Need-part-read-hex-digits-start
-part-read-hex-digits-start c = search hex-laws
+part-read-digits-start : tie.Need-part-read-digits-start
+part-read-digits-start c = search hex-laws
 
-part-read-hex-digits-end : tie.Need-part-read-hex-digits-end
-part-read-hex-digits-end c = search hex-laws
+part-read-digits-end : tie.Need-part-read-digits-end
+part-read-digits-end c = search hex-laws
 
-read-hex-digits-requires : tie.Need-read-hex-digits-requires
-read-hex-digits-requires c κs = search hex-laws
+read-digits-requires : tie.Need-read-digits-requires
+read-digits-requires c κs = search hex-laws
 
 returns-2 : tie.Need-returns-2
 returns-2 c = search hex-laws
 
-read-hex-digits-requires-2 : tie.Need-read-hex-digits-requires-2
-read-hex-digits-requires-2 c κs = search hex-laws
+read-sixteen-requires : tie.Need-read-sixteen-requires
+read-sixteen-requires c κs = search hex-laws
 
 returns-3 : tie.Need-returns-3
 returns-3 c = search hex-laws
+
+read-digits-requires-2 : tie.Need-read-digits-requires-2
+read-digits-requires-2 c κs = search hex-laws
+
+returns-4 : tie.Need-returns-4
+returns-4 c = search hex-laws
 
 pub read-hexadecimal-spec : {M : Type 1} → statement M
 read-hexadecimal-spec =
@@ -53,10 +59,12 @@ read-hexadecimal-spec =
     part-rest-end
     returns
     shared-slice-read-if2
-    sub-read-hex-digits
-    part-read-hex-digits-start
-    part-read-hex-digits-end
-    read-hex-digits-requires
+    sub-read-digits
+    part-read-digits-start
+    part-read-digits-end
+    read-digits-requires
     returns-2
-    read-hex-digits-requires-2
-    returns-3)
+    read-sixteen-requires
+    returns-3
+    read-digits-requires-2
+    returns-4)
