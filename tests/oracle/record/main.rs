@@ -303,6 +303,14 @@ fn like_label(source: &str) -> bool {
     source.lines().any(|line| line.split(';').next().unwrap().split_whitespace().skip(1).any(like))
 }
 
+/// Whether an operand has a hexadecimal number, which the Rust does not read: document 02's Point 4 departs from it there.
+fn hexadecimal(source: &str) -> bool {
+    let digits = |text: &str| (1..=16).contains(&text.len()) && text.bytes().all(|b| b.is_ascii_hexdigit());
+    let number = |part: &str| part.strip_prefix("0x").is_some_and(digits);
+    let has = |piece: &str| piece.split(['[', ',', ']']).any(number);
+    source.lines().any(|line| line.split(';').next().unwrap().split_whitespace().skip(1).any(has))
+}
+
 // ---- bytecodes
 
 fn first_word(c: &mut Chance) -> u64 {
@@ -580,7 +588,7 @@ fn record_sources(c: &mut Chance, cases: usize, bytecodes: &mut Vec<String>) -> 
         let (text, names) = source(c);
         let list: Vec<&str> = names.iter().map(String::as_str).collect();
         let lent = list_text(c, &names);
-        if text.len() > 300 || mains(&text) > 1 || like_label(&text) {
+        if text.len() > 300 || mains(&text) > 1 || like_label(&text) || hexadecimal(&text) {
             continue;
         }
         let answer = oracle::assemble(&text, &list);
