@@ -4,41 +4,46 @@ use crate::check::Expected;
 use crate::named::{bytecode, hosts, listed, no_room, refused, room, row, rows, source, words, Named, CALL};
 use crate::paper::{self, ORDER};
 
-/// A source in decimal, and whether one of its numbers that were hexadecimal stands in brackets.
+/// A source in decimal, and whether one of its numbers that were hexadecimal stands in brackets, and one is p or more.
 pub struct Decimal {
     pub text: String,
     pub bracketed: bool,
+    pub large: bool,
 }
 
-/// How many sources had a hexadecimal number; how many of these were accepted, how many had an unreadable row, and how many with such a number in brackets
-/// were accepted.
+/// How many sources had a hexadecimal number; how many of these were accepted, and how many with such a number in brackets; how many had an unreadable row,
+/// and how many with such a number of p or more.
 #[derive(Clone, Copy, Default)]
 pub struct Hexadecimals {
     pub sources: u64,
     pub accepted: u64,
-    pub unreadable: u64,
     pub bracketed: u64,
+    pub unreadable: u64,
+    pub large: u64,
 }
 
 impl Hexadecimals {
     pub fn tally(&mut self, decimal: &Decimal, number: u64) {
         self.sources += 1;
         self.accepted += u64::from(number == 0);
-        self.unreadable += u64::from(number == 3);
         self.bracketed += u64::from(number == 0 && decimal.bracketed);
+        self.unreadable += u64::from(number == 3);
+        self.large += u64::from(number == 3 && decimal.large);
     }
 }
 
 /// A source with each hexadecimal number of an operand in decimal, where it has one. One of p or more is respelt too: it is unreadable either way. All else
 /// stays, call rows that look like such a number among it; the places after a number are others.
 pub fn in_decimal(source: &str) -> Option<Decimal> {
-    let mut decimal = Decimal { text: String::new(), bracketed: false };
+    let mut decimal = Decimal { text: String::new(), bracketed: false, large: false };
     let mut done = 0;
     for (operand, number) in paper::operands(source).into_iter().filter_map(|operand| Some((operand, hexadecimal(operand)?))) {
         let start = paper::place(source, number);
+        let value = u64::from_str_radix(&number[2..], 16).unwrap();
         decimal.text.push_str(&source[done..start]);
-        decimal.text.push_str(&u64::from_str_radix(&number[2..], 16).unwrap().to_string());
+        decimal.text.push_str(&value.to_string());
         decimal.bracketed |= operand != number;
+        decimal.large |= value >= ORDER;
         done = start + number.len();
     }
     if done == 0 {

@@ -10,9 +10,9 @@
 //! at most three fifths of the count), then random cases.
 //! With DRY=1 only the Rust runs. With TRACE=1 each case is printed before it runs.
 //! Exit status: 0 no difference; 1 a difference, a function of the port that was never called, a source whose room was not asked for, the Rust never asked
-//! for a counted length, no respelt source with a name, with an unreadable operand, or accepted, no source with a hexadecimal number that was accepted, had one
-//! in brackets and was accepted, or was unreadable, a source that was not built on the meter, or none that began near the stop, came to just 2^64 - 1, or was
-//! stopped there.
+//! for a counted length, no respelt source with a name, with an unreadable operand, or accepted, no source with a hexadecimal number that was accepted,
+//! accepted with one in brackets, unreadable, or unreadable with one of p or more, a source that was not built on the meter, or none that began near the stop,
+//! came to just 2^64 - 1, or was stopped there.
 mod check;
 mod generate;
 mod hexadecimal;
@@ -166,9 +166,9 @@ impl Run {
         let Respellings { names, accepted, unreadable, both } = self.checker.respellings;
         println!("Sources with operands that look like labels and have no dot, which the Rust was asked about respelt: {}", names + unreadable + both);
         println!("  with names alone: {names} ({accepted} accepted), with unreadable ones alone: {unreadable}, with both: {both}");
-        let Hexadecimals { sources, accepted, unreadable, bracketed } = self.checker.hexadecimals;
+        let Hexadecimals { sources, accepted, bracketed, unreadable, large } = self.checker.hexadecimals;
         println!("Sources with hexadecimal numbers, which the Rust was asked about in decimal: {sources}");
-        println!("  accepted: {accepted} ({bracketed} with such a number in brackets), refused with 3: {unreadable}");
+        println!("  accepted: {accepted} ({bracketed} with one in brackets), refused with 3: {unreadable} ({large} with one of p or more)");
         let Metering { sources, builds, accepted, near, exact, stopped } = self.checker.meters.counts;
         let (total, sum) = self.checker.meters.carried();
         println!("The build meter: {builds} builds of {sources} sources, {accepted} accepted; its total {total}, the sum of the Rust's words {sum}");
@@ -189,8 +189,8 @@ impl Run {
         let called = port::CALLS.iter().all(|(_, calls)| calls.load(Relaxed) > 0) && port::room_calls() >= sources;
         let metered = builds > 0 && built >= sources && near > 0 && exact > 0 && stopped > 0;
         let respelt = accepted > 0 && unreadable > 0;
-        let hexadecimals = self.checker.hexadecimals;
-        let hexadecimal = hexadecimals.accepted > 0 && hexadecimals.unreadable > 0 && hexadecimals.bracketed > 0;
+        let Hexadecimals { accepted, bracketed, unreadable, large, .. } = self.checker.hexadecimals;
+        let hexadecimal = accepted > 0 && bracketed > 0 && unreadable > 0 && large > 0;
         counted == 0 || !respelt || !hexadecimal || !self.checker.dry && !(called && metered)
     }
 }
