@@ -51,7 +51,7 @@ fn hexadecimal(r: &mut Random, odd: bool) -> String {
         return r.one(&NEARLY).to_string();
     }
     let bounds = [ORDER - 1, ORDER, u64::MAX, 1 << 63, 0];
-    let value = match r.below(if odd { 7 } else { 4 }) {
+    let value = match r.below(if odd { 8 } else { 4 }) {
         0..=2 => r.below(300) as u64,
         3 | 4 => r.next() % ORDER,
         5 => r.next() >> r.below(64),
