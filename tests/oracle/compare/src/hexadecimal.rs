@@ -86,6 +86,8 @@ pub fn numbers() -> Vec<Named> {
         unreadable("Point 4, p", "0xffffffff00000001"),
         unreadable("Point 4, 2^64 - 1", "0xFFFFFFFFFFFFFFFF"),
         row("Point 4, p in brackets", "mload r1 [r2,0xffffffff00000001]", refused(3, 1)),
+        row("Point 4, p in a factor", "mstore [r1,r2,0xFFFFFFFF00000001] r3", refused(3, 1)),
+        row("Point 4, seventeen digits in brackets", "mload r1 [r2,0x00000000000000005]", refused(3, 1)),
         unreadable("Point 4, no digit", "0x"),
         unreadable("Point 4, 0X", "0X5"),
         unreadable("Point 4, minus", "-0x5"),
