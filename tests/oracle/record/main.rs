@@ -303,12 +303,12 @@ fn like_label(source: &str) -> bool {
     source.lines().any(|line| line.split(';').next().unwrap().split_whitespace().skip(1).any(like))
 }
 
-/// Whether an operand has a number of `0x` and one to sixteen hexadecimal digits, alone or last in brackets: document 02's Point 4 departs from the Rust there.
+/// Whether an operand has a hexadecimal number, which the Rust does not read: document 02's Point 4 departs from it there.
 fn hexadecimal(source: &str) -> bool {
-    let digits = |part: &str| (1..=16).contains(&part.len()) && part.bytes().all(|b| b.is_ascii_hexdigit());
+    let digits = |text: &str| (1..=16).contains(&text.len()) && text.bytes().all(|b| b.is_ascii_hexdigit());
     let number = |part: &str| part.strip_prefix("0x").is_some_and(digits);
-    let last = |piece: &str| Some(number(piece.strip_prefix('[')?.strip_suffix(']')?.rsplit_once(',')?.1));
-    source.lines().any(|line| line.split(';').next().unwrap().split_whitespace().skip(1).any(|piece| number(piece) || last(piece) == Some(true)))
+    let has = |piece: &str| piece.split(['[', ',', ']']).any(number);
+    source.lines().any(|line| line.split(';').next().unwrap().split_whitespace().skip(1).any(has))
 }
 
 // ---- bytecodes

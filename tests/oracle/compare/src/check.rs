@@ -1,4 +1,5 @@
 //! One case on both sides: the Rust's answer, that of documents 01 and 02 where it departs or does not tell, and the port's.
+use crate::hexadecimal::{self, Hexadecimals};
 use crate::meter::{self, Build, Meters};
 use crate::paper::{self, Respelt, ORDER};
 use crate::port::{self, Assembly, Encoding, Figures, Label, Lent, Name, NumberedInstruction, NumberedPlace, Opened, Room, Step, Written};
@@ -41,7 +42,7 @@ pub struct Rooms {
     pub above: u64,
 }
 
-/// How many sources the Rust was asked about respelt: with names alone, how many of these it accepted, with unreadable operands alone, with both.
+/// How many sources have operands that look like labels and no dot: names alone, how many of these are accepted, unreadable ones alone, both.
 #[derive(Clone, Copy, Default)]
 pub struct Respellings {
     pub names: u64,
@@ -70,6 +71,7 @@ pub struct Checker {
     every: u64,
     pub rooms: Rooms,
     pub respellings: Respellings,
+    pub hexadecimals: Hexadecimals,
     pub meters: Meters,
     /// How often each answer came: what was asked, and the refusal, 0 for acceptance.
     pub answers: BTreeMap<(&'static str, u64), u64>,
@@ -262,8 +264,16 @@ fn counted(source: &str) -> Result<Option<u64>, String> {
 
 impl Checker {
     pub fn new(dry: bool, every: u64, near_every: u64) -> Checker {
-        let meters = Meters::new(dry, near_every);
-        Checker { dry, every, rooms: Rooms::default(), respellings: Respellings::default(), meters, answers: BTreeMap::new(), accepted: false }
+        Checker {
+            dry,
+            every,
+            rooms: Rooms::default(),
+            respellings: Respellings::default(),
+            hexadecimals: Hexadecimals::default(),
+            meters: Meters::new(dry, near_every),
+            answers: BTreeMap::new(),
+            accepted: false,
+        }
     }
 
     fn tally(&mut self, what: &'static str, number: u64) {
@@ -316,8 +326,8 @@ impl Checker {
         Ok(())
     }
 
-    /// What the Rust, and documents 01 and 02 beside it, say of a source. Where an operand looks like a label and has no dot they are asked of the source
-    /// respelt, which has the same length: every place in it is the source's.
+    /// What is expected of a source. Where an operand looks like a label and has no dot all are asked of the source respelt, which has the same length: every
+    /// place in it is the source's. Where an operand has a hexadecimal number the Rust is asked of the source in decimal.
     fn told(&mut self, source: &[u8], prophets: &[u8]) -> Result<Told, String> {
         if source.len() > paper::SOURCE_LIMIT {
             return Ok(Told::refused(1, 0));
@@ -328,18 +338,29 @@ impl Checker {
         let source = std::str::from_utf8(source).unwrap();
         let respelt = paper::respelt(source);
         let text = respelt.as_ref().map_or(source, |respelt| &respelt.text);
+        let decimal = hexadecimal::in_decimal(text);
+        let told = self.asked(text, decimal.as_ref().map_or(text, |decimal| &decimal.text), prophets)?;
+        let number = told.untabled.or(told.refused).map_or(0, |(number, _)| number);
+        if let Some(respelt) = &respelt {
+            self.respellings.tally(respelt, number);
+        }
+        if let Some(decimal) = &decimal {
+            self.hexadecimals.tally(decimal, number);
+        }
+        Ok(told)
+    }
+
+    /// What the Rust says of a source in decimal, and documents 01 and 02 beside it of the source itself: every place that is told is theirs to tell.
+    fn asked(&mut self, text: &str, decimal: &str, prophets: &[u8]) -> Result<Told, String> {
         let list = paper::listed(prophets);
         let names: Vec<Cow<str>> = list.iter().flatten().map(|name| String::from_utf8_lossy(name)).collect();
         let names: Vec<&str> = names.iter().map(|name| &**name).collect();
-        let mut rust = oracle::assemble(text, &names);
+        let mut rust = oracle::assemble(decimal, &names);
         if rust == Answer::Panicked {
             self.tally("assemble", 999);
-            rust = oracle::assemble(&without_panic(text), &names);
+            rust = oracle::assemble(&without_panic(decimal), &names);
         }
         self.tally("assemble", refusal(&rust));
-        if let Some(respelt) = &respelt {
-            self.respellings.tally(respelt, refusal(&rust));
-        }
         if let Answer::Refused(3, detail) = rust {
             return Ok(Told::refused(3, detail));
         }
@@ -351,7 +372,7 @@ impl Checker {
             return Ok(Told::refused(number, detail));
         }
         let figures = match &rust {
-            Answer::Accepted(assembled) => self.figures(text, entries.len() as u64, assembled)?,
+            Answer::Accepted(assembled) => self.figures(text, decimal, entries.len() as u64, assembled)?,
             _ => {
                 self.rooms.by_paper += 1;
                 paper::figures(text)
@@ -387,12 +408,12 @@ impl Checker {
     }
 
     /// The figures of a source that the Rust accepts: its own counts, and the label rows of the table. Those that document 02 tells must agree.
-    fn figures(&mut self, source: &str, labels: u64, rust: &Assembled) -> Result<Figures, String> {
+    fn figures(&mut self, source: &str, decimal: &str, labels: u64, rust: &Assembled) -> Result<Figures, String> {
         let paper = paper::figures(source);
         let mut figures = Figures { labels, instructions: rust.instructions, words: words_of(&rust.bytecode).len() as u64, ..paper };
         self.rooms.by_rust += 1;
         if self.rooms.by_rust % self.every == 0 {
-            if let Some(counted) = counted(source)? {
+            if let Some(counted) = counted(decimal)? {
                 self.rooms.counted += 1;
                 figures.counted = counted;
             }
@@ -579,8 +600,10 @@ impl Checker {
             Answer::Refused(refusal, detail) => Opened { refusal: *refusal, detail: *detail },
             Answer::Panicked => return Err("the Rust panics in decode".to_string()),
         };
-        if let Expected::Refused(number, detail) = expected {
-            agreed("refusal", &(*number, *detail), &(opened.refusal, opened.detail))?;
+        match expected {
+            Expected::Refused(number, detail) => agreed("refusal", &(*number, *detail), &(opened.refusal, opened.detail))?,
+            Expected::Rows(_) => agreed("refusal", &(0, 0), &(opened.refusal, opened.detail))?,
+            _ => {}
         }
         if !self.dry {
             same("open", &opened, &port::open(text))?;

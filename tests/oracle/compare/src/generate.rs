@@ -1,6 +1,7 @@
 //! Cases drawn at random. A program is rows of pieces; how they are spelt is drawn apart.
 use crate::check::Case;
 use crate::lists::MNEMONICS;
+use crate::numbers::{decimal, number};
 use crate::paper::ORDER;
 use crate::random::Random;
 use oracle::{Instruction, Place};
@@ -46,7 +47,8 @@ const PLAIN: Manner = Manner { odd: false, mistakes: true };
 const ODD: Manner = Manner { odd: true, mistakes: true };
 const CLEAN: Manner = Manner { odd: false, mistakes: false };
 
-const CALLS: [&str; 14] = ["f", "g", "f", "h_2", "_x", "F", "__a1", "r1", "r10", "pc", "12", "f.1", "main.1", "5LBL1_1"];
+/// Names of call rows. Some no operand can name, as `0x5`, which is a number there.
+const CALLS: [&str; 15] = ["f", "g", "f", "h_2", "_x", "F", "__a1", "r1", "r10", "pc", "12", "0x5", "f.1", "main.1", "5LBL1_1"];
 const LABELS: [&str; 6] = [".LBL0_0", ".LBL0_1", ".LBL1_0", ".LBL01_0", ".LBL12_345", ".LBL0_00"];
 const PROPHETS: [&str; 4] = [".PROPHET0_0", ".PROPHET0_1", ".PROPHET1_0", ".PROPHET00_0"];
 /// Names that look like labels, and such that nearly do.
@@ -61,36 +63,6 @@ const UNREADABLE: [&str; 13] = [
 
 fn register(r: &mut Random) -> String {
     format!("r{}", r.below(10))
-}
-
-/// A number as a source spells it: mostly small, sometimes near a bound, signed or with zeros.
-fn number(r: &mut Random, odd: bool) -> String {
-    if !odd || r.percent(40) {
-        return format!("{}{}", if r.percent(20) { "-" } else { "" }, r.below(300));
-    }
-    let bounds = [
-        "18446744069414584319",
-        "18446744069414584320",
-        "18446744069414584321",
-        "18446744069414584322",
-        "18446744073709551615",
-        "18446744073709551616",
-        "9223372036854775808",
-        "4294967295",
-        "170141183460469231731687303715884105727",
-        "170141183460469231731687303715884105728",
-        "170141183460469231731687303715884105729",
-        "340282366920938463463374607431768211456",
-        "0",
-        "1",
-    ];
-    let digits = match r.below(3) {
-        0 => (r.next() >> r.below(64)).to_string(),
-        1 => (r.next() % ORDER).to_string(),
-        _ => r.one(&bounds).to_string(),
-    };
-    let zeros = if r.percent(25) { "0".repeat(r.below(45)) } else { String::new() };
-    format!("{}{zeros}{digits}", r.one(&["", "", "-", "-", "+"]))
 }
 
 fn bracket(r: &mut Random, odd: bool) -> String {
@@ -324,7 +296,7 @@ fn any_places(r: &mut Random) -> Case {
 
 // ---- damage
 
-const MEANT: &[u8] = b"\n\n\n;: \t\r[],+-_.0159rLBPROHETmainfg\x1c\x0b\x00\x7f";
+const MEANT: &[u8] = b"\n\n\n;: \t\r[],+-_.0159xrLBPROHETmainfg\x1c\x0b\x00\x7f";
 
 fn byte(r: &mut Random, meant: &[u8]) -> u8 {
     if r.percent(70) {
@@ -382,6 +354,7 @@ fn soup(r: &mut Random) -> Case {
     let pieces = [
         "main:", "\n", "\n", "\n", " ", " ", "mov", "r1", "r2", ".LBL", "LBL", "0", "1_2", "_", ":", ";", "[", ",", "]", "+", "-", "ret", "end",
         "pc", "psp", "f", ".PROPHET", "\t", "\r", "jmp", "mload", ".", "r", "add", "call xLBL1_2", "xLBL1_2:", "jmp 5LBL1_2",
+        "mov r1 0x", "0x5:", "mload r1 [r2,0xA]",
     ];
     for _ in 0..r.below(14) {
         match r.below(3) {
@@ -457,7 +430,7 @@ fn spelt_word(r: &mut Random, word: u64) -> String {
 
 fn second_line(r: &mut Random) -> String {
     match r.below(8) {
-        0..=2 => number(r, true),
+        0..=2 => decimal(r, true),
         3 => format!("{:#x}", r.next() % ORDER),
         4 => format!("{}0x{:x}", "0x".repeat(r.below(3)), r.next() >> r.below(64)),
         5 => format!("0x{:X}", ORDER.wrapping_add(r.below(3) as u64).wrapping_sub(1)),

@@ -1,6 +1,7 @@
 //! Cases at the limits of what is given, and such as have very many rows, words or names.
 use crate::check::Expected;
 use crate::named::{bytecode, hosts, listed, refused, room, row, source, words, Named, CALL};
+use crate::paper::ORDER;
 
 /// A text of so many bytes, filled with comment.
 fn filled(text: &str, size: usize) -> String {
@@ -26,6 +27,8 @@ pub fn limits() -> Vec<Named> {
     vec![
         source("65,536 bytes", &filled("main:\nend", 65_536), words(&[0x0000000000100000])),
         source("65,537 bytes", &filled("main:\nend", 65_537), refused(1, 0)),
+        source("65,536 bytes, more in decimal", &filled("main:\nmov r1 0xffffffff00000000", 65_536), words(&[0x4000000208000000, ORDER - 1])),
+        source("65,537 bytes, fewer in decimal", &filled("main:\nmov r1 0x0000000000000005", 65_537), refused(1, 0)),
         source("65,534 bytes of rows", &format!("main:\n\n\n\n\n{}", ends(65_526)), room(1, 16_381, 16_381, 16_381)),
         source("as many words as fit", &format!("main:\n{}end", "jmp 1\n".repeat(10_921)), room(1, 10_922, 21_843, 21_843)),
         source("as many label rows as fit", &format!("main:\n{}", "b:\n".repeat(21_843)), words(&[])),

@@ -31,8 +31,9 @@ pub const MNEMONICS: [&str; 27] = [
 
 // ---- operations and shapes
 
-const SHAPES: [&str; 16] =
-    ["r1", "r9", "5", "-1", "[r2]", "[r3,4]", "[r5,r6]", "[r7,r8,9]", "pc", "psp", "main", "g", ".LBL1_1", ".LBL2_2", "xLBL3_3", "5LBL3_3"];
+const SHAPES: [&str; 17] = [
+    "r1", "r9", "5", "-1", "0x1F", "[r2]", "[r3,4]", "[r5,r6]", "[r7,r8,9]", "pc", "psp", "main", "g", ".LBL1_1", ".LBL2_2", "xLBL3_3", "5LBL3_3",
+];
 const S: usize = SHAPES.len();
 /// None, one, two, three operands, and four alike.
 const OPERANDS: usize = 1 + S + S * S + S * S * S + S;
@@ -82,7 +83,7 @@ fn before_label(n: usize) -> Case {
 
 // ---- short texts
 
-const OPERAND_BYTES: &[u8] = b"r1[],+-_.L;p0c";
+const OPERAND_BYTES: &[u8] = b"r1[],+-_.L;p0cxC";
 const ROW_BYTES: &[u8] = b"a1_.:; \tr";
 const FIRST_BYTES: &[u8] = b"0x+18f\n\r-";
 const SECOND_BYTES: &[u8] = b"0x+-18f\n\r_";
@@ -124,7 +125,7 @@ fn short_second(n: usize) -> Case {
 
 // ---- edits
 
-const SOURCES: [&str; 7] = [
+const SOURCES: [&str; 8] = [
     "f:\nret\nmain:\nmov r1 -1\ncall f\n.PROPHET0_0:\nend",
     "main:\n.LBL0_1: ; here\n  mload r1 [r2,3]\n\tmstore [r4,r5,6] r7\r\ncjmp r0 .LBL0_1\n",
     "add r1 r2 18446744069414584320\n_g:\nmul r3 r4 _g\nmain:\njmp _g",
@@ -132,6 +133,7 @@ const SOURCES: [&str; 7] = [
     "main:\nnot r1 -170141183460469231731687303715884105728\nmov r1 18446744069414584320",
     "main:\nmload r1 [r2]\nmload r1 [r2,r3]\nsigcheck r1 pc\n",
     "main:\ncall xLBL1_2\nxLBL1_2:\n_LBL3_4:\njmp _LBL3_4",
+    "main:\nmov r1 0x1F\nmload r2 [r3,0xa]\n0x5:\nmstore [r4,r5,0xB] r6",
 ];
 const PROPHETS: [&str; 1] = ["label\n.PROPHET0_0\n.PROPHET0_0\n.PROPHET1_0"];
 const LISTED: &str = "main:\nret\n.PROPHET0_0:\njmp 1\n.PROPHET1_0:\nend\n.PROPHET2_0:";

@@ -1,23 +1,27 @@
 //! Runs the port beside the Rust and compares every result: acceptance, refusals and details, label addresses, hosts and prophets kept, words and bytecode,
 //! instructions read, listing rows, encodings, the room of a source, and what is left in every lent buffer, past its end too. Where document 01 departs from
 //! the Rust, or 01 or 02 says what the Rust does not tell, paper.rs takes the Rust's place. A source with an operand that looks like a label and has no dot is
-//! outside the comparison as it stands, by document 02's Point 2: the port gets it as it is, the Rust respelt, and such sources are counted apart.
+//! outside the comparison as it stands, by document 02's Point 2: the port gets it as it is, the Rust respelt, and such sources are counted apart. A
+//! source with a hexadecimal number the Rust gets in decimal, by Point 4 (hexadecimal.rs), and these are counted apart too.
 //! One build meter is carried through the whole run: every source is built on it in every room that is tried, and its total is to be the sum of the words that
 //! the Rust gives for what is accepted. One source in fifty also begins at a meter of 2^64 - 1 - k, for each k from 0 to 3 (meter.rs).
 //!   compare [COUNT] [SEED]      default 20000 and 1
 //! First the cases of the papers and, from the file that MANUAL names, the manual's examples, then the whole lists (of a small count every so-many-th of them,
-//! at most half of the count), then random cases.
+//! at most three fifths of the count), then random cases.
 //! With DRY=1 only the Rust runs. With TRACE=1 each case is printed before it runs.
 //! Exit status: 0 no difference; 1 a difference, a function of the port that was never called, a source whose room was not asked for, the Rust never asked
-//! for a counted length, no respelt source with a name, with an unreadable operand, or accepted, a source that was not built on the meter, or none that began
-//! near the stop, came to just 2^64 - 1, or was stopped there.
+//! for a counted length, no respelt source with a name, with an unreadable operand, or accepted, no source with a hexadecimal number that was accepted,
+//! accepted with one in brackets, unreadable, or unreadable with one of p or more, a source that was not built on the meter, or none that began near the stop,
+//! came to just 2^64 - 1, or was stopped there.
 mod check;
 mod generate;
+mod hexadecimal;
 mod limits;
 mod lists;
 mod manual;
 mod meter;
 mod named;
+mod numbers;
 mod paper;
 mod port;
 mod random;
@@ -25,6 +29,7 @@ mod shrink;
 
 use check::{Case, Checker, Expected, Respellings, Rooms};
 use generate::{GENERATORS, LARGE_EVERY};
+use hexadecimal::Hexadecimals;
 use meter::Metering;
 use random::Random;
 use std::panic::{catch_unwind, AssertUnwindSafe};
@@ -161,6 +166,9 @@ impl Run {
         let Respellings { names, accepted, unreadable, both } = self.checker.respellings;
         println!("Sources with operands that look like labels and have no dot, which the Rust was asked about respelt: {}", names + unreadable + both);
         println!("  with names alone: {names} ({accepted} accepted), with unreadable ones alone: {unreadable}, with both: {both}");
+        let Hexadecimals { sources, accepted, bracketed, unreadable, large } = self.checker.hexadecimals;
+        println!("Sources with hexadecimal numbers, which the Rust was asked about in decimal: {sources}");
+        println!("  accepted: {accepted} ({bracketed} with one in brackets), refused with 3: {unreadable} ({large} with one of p or more)");
         let Metering { sources, builds, accepted, near, exact, stopped } = self.checker.meters.counts;
         let (total, sum) = self.checker.meters.carried();
         println!("The build meter: {builds} builds of {sources} sources, {accepted} accepted; its total {total}, the sum of the Rust's words {sum}");
@@ -173,14 +181,17 @@ impl Run {
     }
 
     /// Whether something was not asked that was to be compared: a function of the port, the room of a source, a counted length of the Rust, a respelt source
-    /// of each sort, one that it accepts, a source on the meter, one near its stop of each sort.
+    /// of each sort, one that is accepted, a source with a hexadecimal number of each sort, a source on the meter, one near its stop of each sort.
     fn left_out(&self) -> bool {
         let Rooms { sources, counted, .. } = self.checker.rooms;
         let Respellings { accepted, unreadable, .. } = self.checker.respellings;
         let Metering { sources: built, builds, near, exact, stopped, .. } = self.checker.meters.counts;
         let called = port::CALLS.iter().all(|(_, calls)| calls.load(Relaxed) > 0) && port::room_calls() >= sources;
         let metered = builds > 0 && built >= sources && near > 0 && exact > 0 && stopped > 0;
-        counted == 0 || accepted == 0 || unreadable == 0 || !self.checker.dry && !(called && metered)
+        let respelt = accepted > 0 && unreadable > 0;
+        let Hexadecimals { accepted, bracketed, unreadable, large, .. } = self.checker.hexadecimals;
+        let hexadecimal = accepted > 0 && bracketed > 0 && unreadable > 0 && large > 0;
+        counted == 0 || !respelt || !hexadecimal || !self.checker.dry && !(called && metered)
     }
 }
 
@@ -195,7 +206,7 @@ fn main() {
     if let Ok(path) = std::env::var("MANUAL") {
         run.manual(&path);
     }
-    run.lists(count / 2);
+    run.lists(count / 5 * 3);
     run.random(count, seed);
     run.report();
     std::process::exit(if run.differences == 0 && !run.left_out() { 0 } else { 1 });

@@ -1,5 +1,6 @@
-//! The cases of document 01, of document 02's Points 1 to 3 and of the readings of them, with what the papers say of them.
+//! The cases of document 01, of document 02's Points 1 to 4 and of the readings of them, with what the papers say of them.
 use crate::check::{Case, Expected};
+use crate::hexadecimal;
 use crate::limits::limits;
 use crate::meter::{Build, STOP};
 use crate::paper::ORDER;
@@ -32,7 +33,7 @@ pub fn words(list: &[u64]) -> Expected {
     Expected::Words(list.to_vec())
 }
 
-fn rows(list: &[&str]) -> Expected {
+pub fn rows(list: &[&str]) -> Expected {
     Expected::Rows(list.iter().map(|row| row.to_string()).collect())
 }
 
@@ -48,7 +49,7 @@ pub fn room(labels: u64, instructions: u64, counted: u64, words: u64) -> Expecte
     Expected::Room(Figures { refusal: 0, detail: 0, labels, instructions, counted, words })
 }
 
-fn no_room(refusal: u64, detail: u64) -> Expected {
+pub fn no_room(refusal: u64, detail: u64) -> Expected {
     Expected::Room(Figures { refusal, detail, labels: 0, instructions: 0, counted: 0, words: 0 })
 }
 
@@ -66,6 +67,7 @@ pub fn all() -> Vec<Named> {
         rooms(),
         names_like_labels(),
         builds(),
+        hexadecimal::numbers(),
         reading_sources(),
         reading_lists(),
         reading_bytecodes(),

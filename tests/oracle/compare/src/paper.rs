@@ -25,7 +25,7 @@ pub fn listed(prophets: &[u8]) -> Option<Vec<&[u8]>> {
 }
 
 /// Where a part of a source stands in it.
-fn place(source: &str, part: &str) -> usize {
+pub fn place(source: &str, part: &str) -> usize {
     part.as_ptr() as usize - source.as_ptr() as usize
 }
 
@@ -34,7 +34,12 @@ fn rows(source: &str) -> Vec<(usize, &str)> {
     source.split('\n').map(|line| line.split(';').next().unwrap().trim()).filter(|row| !row.is_empty()).map(|row| (place(source, row), row)).collect()
 }
 
-/// A source as the Rust is asked about it, how many of its operands are respelt names, and how many were made unreadable.
+/// The pieces of the rows of a source, but for the first piece of each.
+pub fn operands(source: &str) -> Vec<&str> {
+    rows(source).into_iter().flat_map(|(_, row)| row.split_whitespace().skip(1)).collect()
+}
+
+/// A source as the Rust is asked about it but for hexadecimal numbers, how many of its operands are respelt names, and how many were made unreadable.
 pub struct Respelt {
     pub text: String,
     pub names: usize,
@@ -45,14 +50,13 @@ pub struct Respelt {
 /// name": it gets other letters there, in its call rows too, so that the Rust takes it for a name. "Any other character than a dot makes the row unreadable":
 /// so does `$`. Listed prophets are looked for among prophet rows alone, which stay as they are, so a prophet list needs no respelling.
 pub fn respelt(source: &str) -> Option<Respelt> {
-    let rows: Vec<&str> = rows(source).into_iter().map(|(_, row)| row).collect();
-    let operands = rows.iter().flat_map(|row| row.split_whitespace().skip(1)).filter(|piece| looks_like_a_label(piece));
+    let operands = operands(source).into_iter().filter(|piece| looks_like_a_label(piece));
     let (names, unreadable): (Vec<&str>, Vec<&str>) = operands.partition(|piece| piece.starts_with(|c: char| c == '_' || c.is_ascii_alphabetic()));
     if names.is_empty() && unreadable.is_empty() {
         return None;
     }
     let spellings: HashSet<&str> = names.iter().copied().collect();
-    let called = rows.iter().filter_map(|row| row.strip_suffix(':')).filter(|name| spellings.contains(name));
+    let called = rows(source).into_iter().filter_map(|(_, row)| row.strip_suffix(':')).filter(|name| spellings.contains(name));
     let letters = unused_letters(source);
     let mut text = source.as_bytes().to_vec();
     for name in names.iter().copied().chain(called) {
@@ -110,9 +114,14 @@ fn kind(row: &str) -> Option<u8> {
     })
 }
 
+/// Whether an operand is a register.
+pub fn register(operand: &str) -> bool {
+    operand.len() == 2 && operand.starts_with('r') && operand.as_bytes()[1].is_ascii_digit()
+}
+
 /// Whether an operand is a register, pc or psp; whatever is none of these is a number, name, label or bracketed.
 fn plain(operand: &str) -> bool {
-    operand == "pc" || operand == "psp" || (operand.len() == 2 && operand.starts_with('r') && operand.as_bytes()[1].is_ascii_digit())
+    operand == "pc" || operand == "psp" || register(operand)
 }
 
 /// "Counted length: 1, plus 1 for op0 and 1 for op1 where it is a number, name, label or bracketed".
