@@ -408,6 +408,160 @@ static void metering_a_history(void)
     say("meter_build: what ola_assemble_parts builds is not counted", assembly_is(a, 0, 0, 3, 6, 0, 0) && third.meter.total == 16);
 }
 
+/* ---- document 02, Point 4 */
+
+/* A row after `main:`. */
+static const char *after_main(const char *row)
+{
+    static char source[2][96];
+    static int turn;
+    turn = 1 - turn;
+    snprintf(source[turn], sizeof source[turn], "main:\n%s", row);
+    return source[turn];
+}
+
+/* Of a source that begins with `main:` and an instruction. */
+static const ola_label MAIN_ROW = { .kind = 0, .mapped = true, .start = 0, .length = 4, .address = 0 };
+
+/* A row of two words with its number in hexadecimal, and the same row in decimal: of both the words told, by every call that builds, in just so much room as
+   ola_room_of tells, and the same in all that is lent. */
+static void spelt(const char *row, const char *decimal, uint64_t first, uint64_t second)
+{
+    static struct left left;
+    static ola_label table[ENTRIES];
+    static const ola_assembly told = { .labels = 1, .words = 2 };
+    const uint64_t emitted[2] = { first, second };
+    const char *const source[2] = { after_main(row), after_main(decimal) };
+    char what[160];
+    int right = 1;
+    for (int i = 0; i < 2; i++) {
+        size_t length = strlen(source[i]);
+        right = right && room_is(ola_room_of(bytes(source[i]), length), 0, 0, 1, 1, 2, 2);
+        right = right && builds(7, source[i], "", 1, 2, 0, told, emitted, 9);
+        clear();
+        table[0] = (ola_label){ .kind = MARK, .mapped = false };
+        ola_assembly a = ola_assemble(bytes(source[i]), length, bytes(""), 0, table, 1, words, 2, hosts, 0);
+        right = right && same_assembly(a, told) && same_entry(table[0], MAIN_ROW) && memcmp(words, emitted, sizeof emitted) == 0
+                && untouched(words + 2, sizeof words - sizeof emitted);
+        clear();
+        right = right && same_assembly(parts(source[i], length, "", ENTRIES, WORDS, HOSTS), told) && same_entry(entry_at(0), MAIN_ROW)
+                && memcmp(words, emitted, sizeof emitted) == 0;
+        if (i == 0)
+            keep(&left);
+    }
+    snprintf(what, sizeof what, "0x: %s is %s", row, decimal);
+    say(what, right && left_so(&left));
+}
+
+/* A source that every call which takes one refuses with 3, so that nothing is written and no meter moves. */
+static int unreadable(const char *source, uint64_t detail)
+{
+    static ola_label table[ENTRIES];
+    const ola_label mark = { .kind = MARK, .mapped = false, .start = MARK, .length = MARK, .address = MARK };
+    const ola_assembly told = { .refusal = 3, .detail = detail };
+    int right = builds(0, source, "", ENTRIES, WORDS, HOSTS, told, NULL, 0) && builds(12, source, "", ENTRIES, WORDS, HOSTS, told, NULL, 12)
+                && room_is(ola_room_of(bytes(source), strlen(source)), 3, detail, 0, 0, 0, 0);
+    clear();
+    for (size_t i = 0; i < ENTRIES; i++)
+        table[i] = mark;
+    ola_assembly a = ola_assemble(bytes(source), strlen(source), bytes(""), 0, table, ENTRIES, words, WORDS, hosts, HOSTS);
+    right = right && same_assembly(a, told) && untouched(words, sizeof words) && untouched(hosts, sizeof hosts);
+    for (size_t i = 0; i < ENTRIES; i++)
+        right = right && same_entry(table[i], mark);
+    return right;
+}
+
+/* What is no number, alone and in brackets. */
+static void misspelt(const char *number)
+{
+    static const char *const rows[] = { "mov r1 %s", "mload r1 [r2,%s]", "mstore [r2,%s] r1", "mload r1 [r2,r3,%s]", "mov %s r1", "jmp %s" };
+    char row[64], what[96];
+    int right = 1;
+    for (size_t i = 0; i < sizeof rows / sizeof rows[0]; i++) {
+        snprintf(row, sizeof row, rows[i], number);
+        right = right && unreadable(after_main(row), 1);
+    }
+    snprintf(what, sizeof what, "0x: %s is no number, alone or in brackets: 3", number);
+    say(what, right);
+}
+
+static void hexadecimal(void)
+{
+    const uint64_t mov = UINT64_C(0x4000000208000000), mload = UINT64_C(0x4040000200400000);
+    spelt("mov r1 0xaBcD", "mov r1 43981", mov, 0xabcd);
+    spelt("mov r1 0x0", "mov r1 -0", mov, 0);
+    spelt("mov r1 0x10", "mov r1 16", mov, 16);
+    spelt("mov r1 0x0000000000000005", "mov r1 +005", mov, 5);
+    spelt("mov r1 0x0123456789abcdef", "mov r1 81985529216486895", mov, UINT64_C(0x0123456789abcdef));
+    spelt("mov r1 0xFEDCBA9876543210", "mov r1 18364758544493064720", mov, UINT64_C(0xfedcba9876543210));
+    spelt("mov r1 0xffffffff", "mov r1 4294967295", mov, UINT64_C(0xffffffff));
+    spelt("mov r1 0xffffffff00000000", "mov r1 18446744069414584320", mov, ORDER - 1);
+    spelt("mov r1 0xFFFFFFFF00000000", "mov r1 -1", mov, ORDER - 1);
+    spelt("mload r1 [r2,0xA]", "mload r1 [r2,10]", mload, 10);
+    spelt("mload r1 [r2,0xffffffff00000000]", "mload r1 [r2,-1]", mload, ORDER - 1);
+    spelt("mload r1 [r2,r3,0xA]", "mload r1 [r2,r3,10]", UINT64_C(0x0040200200400000), 10);
+    spelt("mstore [r2,0xA] r1", "mstore [r2,10] r1", UINT64_C(0x4040000200200000), 10);
+    spelt("mstore [r1,r2,0xa] r3", "mstore [r1,r2,10] r3", UINT64_C(0x0020100800200000), 10);
+    spelt("add r1 r2 0x7", "add r1 r2 7", UINT64_C(0x4040000280000000), 7);
+    spelt("cjmp r1 0x7", "cjmp r1 7", UINT64_C(0x4020000002000000), 7);
+    spelt("jmp 0x5", "jmp 5", JUMP[0], JUMP[1]);
+
+    static const char *const numbers[] = {
+        "0x00000000000000005", "0x10000000000000000", "0xffffffff00000001", "0xFFFFFFFFFFFFFFFF", "0x", "0X5", "-0x5", "+0x5", "0x+5", "0x-5", "0x0x5",
+        "0xg", "0xG", "0x5g", "00x5", "0x5_", "0x_5", "0x5.", "0x:", "0x@", "0x/", "0x`", "5x", "0xx5", "-0xA", "0xLBL1_2",
+    };
+    for (size_t i = 0; i < sizeof numbers / sizeof numbers[0]; i++)
+        misspelt(numbers[i]);
+    say("0x: 3 with the rows before it, hexadecimal ones among them", unreadable("main:\nmov r1 0x5\nmload r1 [r2,0xA]\nmov r1 0x\nmov r1 0X5", 3));
+    say("0x: no .LBL row has such digits", unreadable("main:\n.LBL0x1_2:\nend", 1) && unreadable("main:\njmp .LBL0x1_2\n.LBL1_2:\nend", 1));
+
+    /* Where 3 came before. */
+    meters_none("0x: 12 for one in dst", "main:\nmov 0x5 r1", "", ENTRIES, WORDS, HOSTS, 12, 0);
+    takes("room_of: 0x in dst takes no word", "main:\nmov 0x5 r1", 1, 1, 1, 1);
+    meters_none("0x: 12 for one in op0", "main:\nadd r1 0x5 r2", "", ENTRIES, WORDS, HOSTS, 12, 0);
+    takes("room_of: 0x in op0 takes none", "main:\nadd r1 0x5 r2", 1, 1, 2, 1);
+    meters_none("0x: 11 for mload from one", "main:\nmload r1 0x5", "", ENTRIES, WORDS, HOSTS, 11, 0);
+    takes("room_of: mload of 0x", "main:\nmload r1 0x5", 1, 1, 2, 2);
+    takes("room_of: mstore of 0x: one word more in all", "main:\nmstore [r1] 0x5", 1, 1, 3, 2);
+    meters_none("0x: 13 for one word of two", "main:\njmp 0x5", "", ENTRIES, 1, HOSTS, 13, 0);
+    /* As before. */
+    meters_none("0x: r0x1 is a name: 10", "main:\nmov r0x1 5", "", ENTRIES, WORDS, HOSTS, 10, 0);
+    meters_none("0x: x5 is a name: 10", "main:\njmp x5", "", ENTRIES, WORDS, HOSTS, 10, 0);
+
+    /* A call label that no operand can name: the call goes to 5, and the row is at 2. */
+    static const char call[] = "main:\ncall 0x5\n0x5:\nret";
+    static const uint64_t called[3] = { UINT64_C(0x4000000001000000), 5, UINT64_C(0x800000) };
+    static const ola_label other = { .kind = 0, .mapped = true, .start = 15, .length = 3, .address = 2 };
+    meters("0x: call 0x5 beside a row 0x5: goes to 5", 0, call, "", (ola_assembly){ .labels = 2, .words = 3 }, called, 3);
+    clear();
+    ola_assembly a = parts(call, strlen(call), "", ENTRIES, WORDS, HOSTS);
+    say("0x: that row is an entry of its table",
+        assembly_is(a, 0, 0, 2, 3, 0, 0) && same_entry(entry_at(0), MAIN_ROW) && same_entry(entry_at(1), other));
+    takes("room_of: call 0x5 and the row 0x5:", call, 2, 2, 3, 3);
+    ola_name name = ola_label_name(bytes(call), strlen(call), other);
+    say("label_name: 0x5", name.start == 15 && name.length == 3);
+}
+
+/* Each line of a bytecode text is a number that a row takes as it is. */
+static void pasting(void)
+{
+    int right = 1;
+    const char *line = BYTECODE;
+    for (size_t i = 0; i < 6; i++) {
+        char row[64];
+        size_t length = strcspn(line, "\n");
+        snprintf(row, sizeof row, "mov r1 %.*s", (int)length, line);
+        const char *source = after_main(row);
+        clear();
+        right = right && assembly_is(parts(source, strlen(source), "", ENTRIES, WORDS, HOSTS), 0, 0, 1, 2, 0, 0)
+                && words[0] == UINT64_C(0x4000000208000000) && words[1] == PRINTED[i];
+        line += length + 1;
+    }
+    say("0x: each line of the printing source's bytecode, pasted into a row, is its word", right);
+    static const char listed[] = "main:\nmov r1 0xffffffff00000000\ncall 0x5\nend\nret";
+    meters("0x: the printing source's listing after main has its words", 0, listed, "", (ola_assembly){ .labels = 1, .words = 6 }, PRINTED, 6);
+}
+
 static void naming(void)
 {
     int right = 1;
@@ -514,6 +668,31 @@ static void writing_and_opening(void)
     say("open: 14 for 524,289 bytes", opened_is(ola_open(long_text, sizeof long_text), 14, 0));
 }
 
+/* What a source refuses and bytecode takes on a second line, and what neither takes. */
+static void second_lines(void)
+{
+    static const struct { const char *text; uint64_t number; } lines[] = {
+        { "0x4000000208000000\n0x00000000000000005", 5 },
+        { "0x4000000208000000\n0x0x5", 5 },
+        { "0x4000000208000000\n0x+5", 5 },
+        { "0x4000000208000000\n16", 16 },
+        { "0x4000000208000000\n-5", ORDER - 5 },
+    };
+    static const char *const none[] = {
+        "0x4000000208000000\n-0x5", "0x4000000208000000\n+0x5", "0x4000000208000000\n0X5", "0x4000000208000000\n0x", "0x4000000208000000\n0xffffffff00000001",
+    };
+    int right = 1;
+    for (size_t i = 0; i < sizeof lines / sizeof lines[0]; i++)
+        right = right && opened_is(opens(lines[i].text), 0, 0)
+                && step_is(ola_next_at(bytes(lines[i].text), strlen(lines[i].text), 0), 0, 0, strlen(lines[i].text),
+                           instruction(MOV, NONE, NUMBER(lines[i].number), REGISTER(1)));
+    say("next_at: on a second line seventeen digits, 0x0x5 and 0x+5 are 5, 16 is decimal, -5 is p - 5", right);
+    right = 1;
+    for (size_t i = 0; i < sizeof none / sizeof none[0]; i++)
+        right = right && opened_is(opens(none[i]), 18, 0);
+    say("open: 18 for a sign before 0x, 0X, no digit, and p on a second line", right);
+}
+
 static void reading(void)
 {
     ola_instruction program[4], none = instruction(0, NONE, NONE, NONE);
@@ -542,6 +721,7 @@ static void reading(void)
     say("next_at: 20 past the end", step_is(ola_next_at(text, length, SIZE_MAX), 20, 0, UINT64_MAX, none));
     say("next: 0x4000000001000000 and 10 is call 10, not 16",
         step_is(ola_next(bytes("0x4000000001000000\n10"), 21, 0), 0, 0, 2, instruction(CALL, NONE, NUMBER(10), NONE)));
+    second_lines();
     say("next: 0x0000000600800000 reads dst r1, not r2",
         step_is(ola_next(bytes("0x0000000600800000"), 18, 0), 0, 0, 1, instruction(RET, NONE, NONE, REGISTER(1))));
     say("next: 0x0000000208000000 is mov r1 psp",
@@ -657,6 +837,8 @@ int main(void)
     telling_room();
     metering();
     metering_a_history();
+    hexadecimal();
+    pasting();
     naming();
     writing_and_opening();
     reading();

@@ -227,8 +227,9 @@ static int prepare(void (*unused)(void))
     for (unsigned n = 0; length <= SOURCE; n++) {
         snprintf(block, sizeof block,
                  "f%u:\n.LBL%u_0:\n.PROPHET%u_0:\nmov r1 -1\nadd r1 r2 %u\nmul r9 r8 r7\ncall f%u\ncjmp r1 .LBL%u_0\njmp .LBL%u_0\n"
-                 "mload r1 [r2]\nmload r1 [r2,-%u]\nmload r1 [r2,r3]\nmstore [r2,r3] r1\nassert r1 ; a comment\nlog r1 r2\nret\n",
-                 n, n, n, n, n, n, n, n);
+                 "mload r1 [r2]\nmload r1 [r2,-%u]\nmload r1 [r2,r3]\nmstore [r2,r3] r1\nassert r1 ; a comment\nlog r1 r2\nret\n"
+                 "mov r1 0x%016x\nmstore [r2,r3,0x%X] r1\n",
+                 n, n, n, n, n, n, n, n, n, n);
         size_t after = put(shared->source, length, SOURCE, block);
         if (after > SOURCE)
             break;

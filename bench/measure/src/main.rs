@@ -279,6 +279,12 @@ fn parts(source: &[u8]) -> Assembly {
     answer
 }
 
+/// The words of a source.
+fn words(source: &[u8]) -> Vec<u64> {
+    let count = parts(source).words as usize;
+    lent(|lent, _| lent.5[..count].to_vec())
+}
+
 /// `ola_meter_build` on the meter that the last build answered.
 fn metered(source: &[u8]) -> Metered {
     thread_local!(static METER: Cell<Meter> = Cell::new(unsafe { sys::ola_meter_open() }));
@@ -350,8 +356,8 @@ fn read(text: &[u8]) -> usize {
     }
 }
 
-/// What is measured, the source, its bytes, and nanoseconds a byte of the port and of the Rust; of a room and of a build on a meter, of `ola_room_of` or
-/// `ola_meter_build` and of `ola_assemble_parts`.
+/// What is measured, the source, its bytes, and nanoseconds a byte of the port and of the Rust (which gets the rows in decimal, and whose time is divided by
+/// the same bytes); of a room and of a build on a meter, of `ola_room_of` or `ola_meter_build` and of `ola_assemble_parts`.
 fn print(what: &str, name: &str, bytes: usize, port: f64, beside: f64) {
     println!("{what}\t{name}\t{bytes}\t{:.4}\t{:.4}", port / bytes as f64, beside / bytes as f64);
 }
@@ -363,9 +369,10 @@ fn main() {
         black_box(parts(black_box(b"main:\nend")));
     }
     for (name, source) in sources::assembled() {
-        let bytes = source.as_bytes();
+        let (bytes, decimal) = (source.as_bytes(), sources::in_decimal(name, &source));
+        assert_eq!(words(bytes), words(decimal.as_bytes()));
         let found =
-            medians(&mut [sampler(|| bytes, parts), sampler(|| bytes, entries), sampler(|| oracle::bundled(&source), oracle::assemble_bundle)]);
+            medians(&mut [sampler(|| bytes, parts), sampler(|| bytes, entries), sampler(|| oracle::bundled(&decimal), oracle::assemble_bundle)]);
         print("assemble, parts", name, bytes.len(), found[0], found[2]);
         print("assemble, entries", name, bytes.len(), found[1], found[2]);
     }

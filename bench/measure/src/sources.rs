@@ -22,6 +22,22 @@ fn ordinary(size: usize) -> String {
     text + main
 }
 
+/// The same rows with each number in hexadecimal, a negative one as p less its size.
+fn hexadecimal(source: &str) -> String {
+    let order = 0xFFFF_FFFF_0000_0001_i128;
+    let spelt = |piece: &str| match piece.parse::<i128>() {
+        Ok(number) => format!("0x{:x}", number.rem_euclid(order)),
+        Err(_) => piece.to_string(),
+    };
+    let mut text = String::new();
+    for piece in source.split_inclusive([' ', ',', ']', '\n']) {
+        let (body, end) = piece.split_at(piece.len() - 1);
+        text.push_str(&spelt(body));
+        text.push_str(end);
+    }
+    text
+}
+
 /// As many labels and jumps as fit: each jump names the first label, the last that a search from the end finds.
 fn look_ups(size: usize, name: &str) -> String {
     let mut text = format!("main:\n{name}:\n");
@@ -31,15 +47,28 @@ fn look_ups(size: usize, name: &str) -> String {
     text
 }
 
+/// The rows of the 4 KB source.
+const HEXADECIMAL: &str = "4 KB, hexadecimal";
+
 pub fn assembled() -> Vec<(&'static str, String)> {
     vec![
         ("200 bytes", ordinary(200)),
         ("4 KB", ordinary(4_096)),
+        (HEXADECIMAL, hexadecimal(&ordinary(4_096))),
         ("64 KB", ordinary(65_536)),
         ("64 KB of look-ups", look_ups(65_536, "a")),
         // `b` and `ce` fall into one bucket of the port's chains.
         ("64 KB, one bucket", look_ups(65_536, "ce")),
     ]
+}
+
+/// A source as the Rust gets it, which has decimal numbers only.
+pub fn in_decimal(name: &str, source: &str) -> String {
+    if name == HEXADECIMAL {
+        ordinary(4_096)
+    } else {
+        source.to_string()
+    }
 }
 
 pub fn read() -> Vec<(&'static str, String)> {
