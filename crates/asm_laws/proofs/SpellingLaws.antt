@@ -16,8 +16,8 @@ use Rattle.text_read.specs.Numerals.{valueFrom, numeral}
 use Rattle.text_read.specs.declared.Numeral.{Numeral}
 use Rattle.text_read.specs.declared.Numeral.the-variants.{Value, Nothing as NoNumeral}
 use Rattle.text_read.proofs.Laws.{numeral-value, numeral-below}
-use Rattle.text_write.specs.Digits.{digitCount, prefixedText, decimalText}
-use Rattle.text_write.proofs.Laws.{length-decimal, length-prefixed, digitCount-positive, digitCount-enough}
+use Rattle.text_write.specs.Digits.{digitCount, prefixedText, fewestText, sixteenText, decimalText}
+use Rattle.text_write.proofs.Laws.{length-decimal, length-prefixed, digitCount-positive, digitCount-fewest, digitCount-enough}
 use Rattle.vm_operands.specs.Numbers.{order, immediate, unsigned, isMinus, signed, numberOf}
 use Rattle.vm_operands.specs.declared.ImmediateFound.the-variants.{Is}
 use Rattle.vm_operands.proofs.DigitLaws.{digits-read, digits-read-to, digits-over, decimal-digits}
@@ -122,7 +122,7 @@ spellings-agree x e =
     let a : sourceNumber x ≡ signed false (Value (valueFrom 16 0 (drop 2 x))) = rw e (ap (signed false) (h .0)) in
     (decimal-number (valueFrom 16 0 (drop 2 x)) (h .1), a ∙ sym (decimal-value (valueFrom 16 0 (drop 2 x)) (h .1)))
 
--- What the bytecode prints, a number or a word below p, is read as itself, and so is its decimal text.
+-- What is printed as `0x` and up to sixteen digits, and the decimal text, is read as itself,
 pub printed-reads : (n v : ℕ) → 1 ≤ n → n ≤ 16 → v < 16 ^ n → v < order → (sourceNumber (prefixedText n v) ≡ Is (immediate v)) × (sourceNumber (decimalText v) ≡ Is (immediate v))
 unfolding sourceNumber signed
 printed-reads n v some most h k =
@@ -131,3 +131,11 @@ printed-reads n v some most h k =
     let s : ltb (length (prefixedText n v)) 19 ≡ true = lt-ltb (length (prefixedText n v)) 19 (omega arith) in
     let r : hexNumeral (prefixedText n v) ≡ Value v = rw s (digits-read n v (2 ^ 64) some h w) in
     (rw (r, lt-ltb v order k), decimal-value v w ∙ rw (lt-ltb v order k))
+
+-- so what the bytecode prints, a number or a word below p, can be pasted as it stands
+pub pasted-reads : (v : ℕ) → v < order → (sourceNumber (fewestText v) ≡ Is (immediate v)) × (sourceNumber (sixteenText v) ≡ Is (immediate v))
+pasted-reads v k =
+    let w : v < 2 ^ 64 = lt-trans k (lit< tt) in
+    let m = digitCount-fewest 16 63 15 v (omega arith) w in
+    let e = digitCount-enough 16 63 v (omega arith) (lt-trans w (lit< tt)) in
+    (printed-reads (digitCount 16 63 v) v (digitCount-positive 16 63 v) m e k .0, printed-reads 16 v (omega arith) (omega arith) w k .0)
