@@ -47,14 +47,15 @@ fn look_ups(size: usize, name: &str) -> String {
     text
 }
 
-/// The rows of the 4 KB source.
+/// Of 4 KB with its numbers in hexadecimal: as many rows as are so many bytes at most in decimal.
 const HEXADECIMAL: &str = "4 KB, hexadecimal";
+const IN_DECIMAL: usize = 3_200;
 
 pub fn assembled() -> Vec<(&'static str, String)> {
     vec![
         ("200 bytes", ordinary(200)),
         ("4 KB", ordinary(4_096)),
-        (HEXADECIMAL, hexadecimal(&ordinary(4_096))),
+        (HEXADECIMAL, hexadecimal(&ordinary(IN_DECIMAL))),
         ("64 KB", ordinary(65_536)),
         ("64 KB of look-ups", look_ups(65_536, "a")),
         // `b` and `ce` fall into one bucket of the port's chains.
@@ -65,7 +66,7 @@ pub fn assembled() -> Vec<(&'static str, String)> {
 /// A source as the Rust gets it, which has decimal numbers only.
 pub fn in_decimal(name: &str, source: &str) -> String {
     if name == HEXADECIMAL {
-        ordinary(4_096)
+        ordinary(IN_DECIMAL)
     } else {
         source.to_string()
     }
