@@ -8,7 +8,7 @@ use Rattle.text.specs.Bytes.{bytes, isSpace, isDigit, isLetter, isWord, same}
 use Rattle.text.specs.Lists.{total}
 use Rattle.text.specs.Scan.{scan, all, parts}
 use Rattle.text.specs.Answer.{Answer, ok, refused, _>>=_}
-use Rattle.text_read.specs.Numerals.{digitValue, valueFrom, numeral}
+use Rattle.text_read.specs.Numerals.{digitValue, valueFrom, numeral, unprefixed, hexadecimal}
 use Rattle.vm_opcodes.specs.Operations.{operations, firstOperation}
 use Rattle.vm_opcodes.specs.declared.OlaOpcode.the-variants.{ADD, MOV, CJMP, RET, MLOAD, MSTORE, JMP, SIGCHECK, EVENT}
 use Rattle.vm_hardware.specs.Registers.{registers, registerOf, specialOf}
@@ -69,7 +69,7 @@ operandCases =
     ∷ (bytes "0x5_", Unreadable)
     ∷ (bytes "0x5:", Unreadable)
     ∷ (bytes "r0x1", Is (Identifier 7 4))
-    -- "bracketed operands ... follow it"
+    -- "bracketed operands, rows and the room figures follow it"
     ∷ (bytes "[r2,0xA]", Is (RegisterWithOffset R2 (immediate 10)))
     ∷ (bytes "[r2,0xffffffff00000000]", Is (RegisterWithOffset R2 (immediate 18446744069414584320)))
     ∷ (bytes "[r2,0xffffffff00000001]", Unreadable)
@@ -168,7 +168,7 @@ rowCases =
     ∷ (bytes "mload r1 xLBL1_2", instruction MLOAD Empty (Identifier 9 7) (RegisterOperand R1) ∷ [])
     ∷ (bytes "mload r1 5LBL1_2", NoRow ∷ [])
     ∷ (bytes "add 5LBL1_2 r1 .LBL1_2", NoRow ∷ [])
-    -- "rows ... follow it"
+    -- "bracketed operands, rows and the room figures follow it"
     ∷ (bytes "add r1 0x5 0x6", instruction ADD (ImmediateOperand (immediate 5)) (ImmediateOperand (immediate 6)) (RegisterOperand R1) ∷ [])
     ∷ (bytes "mload r1 [r2,0xA]", instruction MLOAD Empty (RegisterWithOffset R2 (immediate 10)) (RegisterOperand R1) ∷ [])
     ∷ (bytes "mstore [r1,r2,0xa] r3", instruction MSTORE (RegisterWithFactoredRegOffset R1 R2 (immediate 10)) (RegisterOperand R3) Empty ∷ [])
@@ -253,9 +253,10 @@ surveyCases =
     ∷ (bytes "main:\n\nend\nfoo", refused 3 2)
     ∷ []
 
--- the cases are exported, since modules that export are checked first: a wrong definition is told by its case, then by the laws
+-- the cases are exported, since modules that export are checked first: a wrong definition is told by its case, then by the laws. What unfolds a bytecode's
+-- numbers is here for the wrong definition that has them: its cases compute too.
 pub operands-right : map (λ c. piece (c .0)) operandCases ≡ map (λ c. c .1) operandCases
-unfolding isDigit isLetter isWord same scan all digitValue valueFrom numeral registers registerOf specialOf signed numberOf isSourceNumber sourceNumber shapes firstMatch
+unfolding isDigit isLetter isWord same scan all digitValue valueFrom numeral unprefixed hexadecimal registers registerOf specialOf signed numberOf isSourceNumber sourceNumber shapes firstMatch
 operands-right = refl
 
 pub rows-right : map (λ c. rowsOf (c .0)) rowCases ≡ map (λ c. c .1) rowCases

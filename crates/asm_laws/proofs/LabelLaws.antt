@@ -33,7 +33,7 @@ use Rattle.asm.specs.declared.RowRead.the-variants.{Unreadable as NoRow}
 abbrev pub anyLabel : Shape
 anyLabel = record { fits = λ x. same (slice 1 4 x) (bytes "LBL") && isPair (drop 4 x); means = label .means }
 
--- 01's shapes, in its order, with n as it is now
+-- the shapes with that label, in 01's order; of n SpellingLaws speaks
 abbrev pub formerShapes : List Shape
 formerShapes = factored ∷ paired ∷ bare ∷ offset ∷ register ∷ number ∷ anyLabel ∷ special ∷ name ∷ []
 
@@ -55,7 +55,7 @@ dotted true false false e = refl
 dotted false b true e = refl
 dotted false b false e = refl
 
--- whatever does not look like a label is read as it was
+-- whatever does not look like a label is read as with that label
 pub others-stay : (q : Part) → looksLike (q .text) ≡ false → operandOf q ≡ firstMatch formerShapes q
 unfolding shapes firstMatch
 others-stay q e = rw (dotted (same (slice 1 4 (q .text)) (bytes "LBL")) (isPair (drop 4 (q .text))) (byteIs (q .text) 0 46) e)

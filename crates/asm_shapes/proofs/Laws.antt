@@ -2,7 +2,7 @@
 use Prim.Native.Nat.{ℕ, suc, _+_, _-_, _^_, _<_, _≤_}
 use mathlib.Core.Path.{_≡_, refl, sym, ap, _∙_}
 use mathlib.Core.List.{List, [], _∷_}
-use mathlib.Core.Bool.{Bool, true, false, not, _&&_, _||_, cond, and-false, or-true}
+use mathlib.Core.Bool.{Bool, true, false, not, _&&_, cond, and-false, or-true, or-false}
 use native.Mathlib.Omega.{arith}
 use borrow.Author.Needs.{needs}
 use borrow.Author.Tests.{lt-ltb, le-ltb, eq-eqb, ne-eqb, eqb-true, eqb-false}
@@ -241,10 +241,6 @@ module _ (x : List ℕ) (n : Numeral) (e : n ≡ hexNumeral x) where
     told : sourceNumberOf x ≡ decimalOf (isMinus x) (unsigned x)
     unfolding sourceNumberOf isSourceNumber sourceNumber numberOf
     told = rw (← e, h, or-false (isDigits (unsigned x)))
-      where
-        or-false : (t : Bool) → t || false ≡ t
-        or-false true = refl
-        or-false false = refl
 
     -- no text
     pub number-none : length x ≡ 0 → Other ≡ sourceNumberOf x

@@ -1,5 +1,5 @@
 -- Inputs that separate likely misreadings of bytecode lines, decoding, opening and next instruction, by computation. Expected values:
--- document 01 and READINGS 13 to 22.
+-- document 01, READINGS 13 to 22, and document 02's Point 4, by which nothing changes here.
 use Prim.Native.Nat.{ℕ, _<_}
 use mathlib.Core.Path.{_≡_, refl}
 use mathlib.Core.List.{List, [], _∷_, map}

@@ -1,5 +1,5 @@
 -- Inputs that separate likely misreadings of resolution, canonical instructions, refusals 10 to 13 and what is left in the buffers, by
--- computation. Expected values: documents 01 and 02 (Point 2) and READINGS 2, 3 and 9 to 12.
+-- computation. Expected values: documents 01 and 02 (Points 2 and 4) and READINGS 2, 3 and 9 to 12.
 use Prim.Native.Nat.{ℕ}
 use mathlib.Core.Path.{_≡_, refl}
 use mathlib.Core.List.{List, [], _∷_, _++_, map}

@@ -1,5 +1,5 @@
 -- Inputs that separate likely misreadings of scopes, label tables, prophets, refusals 1 to 9 and the room that a source takes, by computation.
--- Expected values: document 01, READINGS 4 to 8, and document 02's Point 1.
+-- Expected values: document 01, READINGS 4 to 8, and document 02's Points 1, 2 and 4.
 use Prim.Native.Nat.{ℕ, _<_}
 use mathlib.Core.Path.{_≡_, refl}
 use mathlib.Core.List.{List, [], _∷_, map}

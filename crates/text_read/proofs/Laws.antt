@@ -16,6 +16,7 @@ use borrow.Author.Needs.{needs}
 use borrow.Author.Tests.{le-leb, lt-leb, lt-ltb, le-ltb, eq-eqb, ne-eqb, ltb-true}
 use Rattle.text.specs.Bytes.{within, isDigit}
 use Rattle.text.specs.Scan.{all, isEmpty}
+use Rattle.text.proofs.Laws.{other-byte}
 use Rattle.text_read.specs.declared.Numeral.{Numeral}
 use Rattle.text_read.specs.declared.Numeral.the-variants.{Value, Nothing}
 use Rattle.text_read.specs.Numerals.{digitValue, isDigitOf, valueFrom, numeral, unprefixed, withoutPlus, hexadecimal, decimal}
@@ -305,18 +306,14 @@ unfolding hexadecimal unprefixed
 hexadecimal-prefixed bound s = refl
 
 -- digits alone have no `0x` and no plus
-digit-not : (b k : ℕ) → isDigitOf 16 b ≡ true → isDigitOf 16 k ≡ false → eqb b k ≡ false
-digit-not b k h n =
-    ne-eqb b k (λ q. let y : true ≡ false = sym h ∙ ap (isDigitOf 16) q ∙ n in let z : _≡_ {A = ℕ} 0 1 = cc in omega arith)
-
 pub hexadecimal-digits : (bound : ℕ) (s : List ℕ) → all (isDigitOf 16) s ≡ true → hexadecimal bound s ≡ numeral 16 bound s
 unfolding hexadecimal unprefixed all digitValue isDigit
 hexadecimal-digits bound [] h = refl
-hexadecimal-digits bound (x ∷ []) h = simp (digit-not x 43 (both-true (isDigitOf 16 x) true h .0) refl)
+hexadecimal-digits bound (x ∷ []) h = simp (other-byte (isDigitOf 16) x 43 (both-true (isDigitOf 16 x) true h .0) refl)
 hexadecimal-digits bound (x ∷ y ∷ l) h =
     let k = both-true (isDigitOf 16 x) (isDigitOf 16 y && all (isDigitOf 16) l) h in
     let m = both-true (isDigitOf 16 y) (all (isDigitOf 16) l) (k .1) in
-    simp (digit-not y 120 (m .0) refl, and-false, digit-not x 43 (k .0) refl)
+    simp (other-byte (isDigitOf 16) y 120 (m .0) refl, and-false, other-byte (isDigitOf 16) x 43 (k .0) refl)
 
 -- one more digit
 pub value-last : (base v x : ℕ) (l : List ℕ) → valueFrom base v (l ++ x ∷ []) ≡ valueFrom base v l * base + digitValue x

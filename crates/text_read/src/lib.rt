@@ -1,4 +1,4 @@
-// Numbers read from digits, as Rust's `from_str_radix` and `trim_start_matches("0x")` read them.
+// Numbers read from digits, as Rust's `from_str_radix` and `trim_start_matches("0x")` read them, and as a source has them behind `0x`.
 // Every public function takes a part of a text, requires nothing of it, and takes the largest number that is accepted.
 ghost use mathlib.Core.Path.{_≡_};
 ghost use Prim.Native.Nat.{_+_, _≤_};

@@ -1,4 +1,4 @@
-//! Hexadecimal numbers in sources, document 02's Point 4. The Rust reads numbers in decimal alone, and "such a source is compared with the Rust run on the same
+//! Hexadecimal numbers in sources, document 02's Point 4. The Rust reads numbers in decimal alone, and such a source is "compared with the Rust run on the same
 //! source in decimal": how it is respelt, how many such sources there were, and the cases of it.
 use crate::check::Expected;
 use crate::named::{bytecode, hosts, listed, no_room, refused, room, row, rows, source, words, Named, CALL};
