@@ -234,7 +234,7 @@ unfolding firstMatch registerOf specialOf same isDigit isLetter all scan
 bracketed-else n [] e = absurd (true≢false (sym e))
 bracketed-else n (b ∷ x) e = rw (eqb-true b 91 e, and-false (eqb (suc (length x)) 2))
 
--- a piece that is a hexadecimal number has no shape at all
+-- a piece that is a hexadecimal number has none of these shapes
 hexadecimal-else : (n : ℕ) (x : List ℕ) → byteIs x 0 48 ≡ true → byteIs x 1 120 ≡ true → firstMatch decimalShapes (record { start = n; text = x }) ≡ Unreadable
 unfolding firstMatch registerOf specialOf same isDigit isLetter all scan
 hexadecimal-else n [] e f = absurd (true≢false (sym e))

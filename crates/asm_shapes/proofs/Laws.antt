@@ -27,7 +27,7 @@ use Rattle.vm_operands.specs.declared.ImmediateValue.{ImmediateValue}
 use Rattle.vm_operands.specs.declared.ImmediateFound.{ImmediateFound}
 use Rattle.vm_operands.specs.declared.ImmediateFound.the-variants.{Is as IsNumber}
 use Rattle.asm.specs.Operands.{byteIs, isDigits, isPair, isName, hexNumeral, isSourceNumber, sourceNumber}
-use Rattle.asm_shapes.specs.Shapes.{registerFoundAt, inRange, decimalOf, sourceNumberOf}
+use Rattle.asm_shapes.specs.Shapes.{registerFoundAt, inRange, sourceNumberOf}
 use Rattle.asm_shapes.specs.declared.SourceNumber.{SourceNumber}
 use Rattle.asm_shapes.specs.declared.SourceNumber.the-variants.{Is, Other}
 
@@ -217,7 +217,11 @@ range-is f v e = rw e
 
 pub ruleset range-laws = (range-is)
 
--- decimal digits, by whether they are ones
+-- n in decimal: digits behind a sign, or behind none
+abbrev decimalOf : Bool → List ℕ → SourceNumber
+decimalOf negative d = cond (isDigits d) (inRange (signed negative (decimal order d))) Other
+
+-- by whether they are ones
 module _ (negative : Bool) (d : List ℕ) (t : Bool) (e : t ≡ isDigits d) where
   -- another shape
   pub decimal-other : not t ≡ true → Other ≡ decimalOf negative d

@@ -1,14 +1,12 @@
 -- What a part of a piece is: a register, a number, or neither, in the words of the shapes.
 use Prim.Native.Nat.{ℕ}
 use mathlib.Core.List.{List}
-use mathlib.Core.Bool.{Bool, cond}
+use mathlib.Core.Bool.{cond}
 use Rattle.vm_hardware.specs.declared.RegisterFound.{RegisterFound}
 use Rattle.vm_hardware.specs.declared.RegisterFound.the-variants.{Is as IsRegister, Nothing as NoRegister}
-use Rattle.text_read.specs.Numerals.{decimal}
-use Rattle.vm_operands.specs.Numbers.{order, signed}
 use Rattle.vm_operands.specs.declared.ImmediateFound.{ImmediateFound}
 use Rattle.vm_operands.specs.declared.ImmediateFound.the-variants.{Is as IsNumber, Nothing as NoNumber}
-use Rattle.asm.specs.Operands.{isDigits, isSourceNumber, sourceNumber, isRegisterAt, registerOfPlace}
+use Rattle.asm.specs.Operands.{isSourceNumber, sourceNumber, isRegisterAt, registerOfPlace}
 use Rattle.asm_shapes.specs.declared.SourceNumber.{SourceNumber}
 use Rattle.asm_shapes.specs.declared.SourceNumber.the-variants.{Is, OutOfRange, Other}
 
@@ -19,10 +17,6 @@ registerFoundAt x k = cond (isRegisterAt x k) (IsRegister (registerOfPlace x k))
 abbrev pub inRange : ImmediateFound → SourceNumber
 inRange (IsNumber v) = Is v
 inRange NoNumber = OutOfRange
-
--- n in decimal: digits behind a sign, or behind none
-abbrev pub decimalOf : Bool → List ℕ → SourceNumber
-decimalOf negative d = cond (isDigits d) (inRange (signed negative (decimal order d))) Other
 
 -- n: what it is, and whether it is in range
 unfoldable pub sourceNumberOf : List ℕ → SourceNumber

@@ -6,8 +6,12 @@ use vm_hardware::RegisterFound;
 use vm_operands::ImmediateFound;
 use vm_operands::ImmediateValue;
 ghost use mathlib.Core.Path.{_≡_};
+ghost use mathlib.Core.Bool.{cond};
+ghost use Rattle.text_read.specs.Numerals.{decimal};
+ghost use Rattle.vm_operands.specs.Numbers.{order, signed};
 ghost use Rattle.asm.specs.Operands.{byteIs, isDigits, isPair, isName, hexNumeral};
-ghost use Rattle.asm_shapes.specs.Shapes.{registerFoundAt, inRange, decimalOf, sourceNumberOf};
+ghost use Rattle.asm_shapes.specs.Shapes.{registerFoundAt, inRange, sourceNumberOf};
+ghost use Rattle.asm_shapes.specs.declared.SourceNumber.the-variants.{Other};
 
 // What a text says as the number n of a shape: a number, one that is out of range, or no number.
 pub enum SourceNumber {
@@ -115,7 +119,7 @@ fn in_range(found: ImmediateFound) -> SourceNumber
 
 // Decimal digits behind a sign, or behind none.
 fn decimal_number(negative: bool, digits: &[u8]) -> SourceNumber
-    ensures { λ r. ⌜ r ≡ decimalOf negative (now (digits .entry)) ⌝ }
+    ensures { λ r. ⌜ r ≡ cond (isDigits (now (digits .entry))) (inRange (signed negative (decimal order (now (digits .entry))))) Other ⌝ }
 {
     if !is_digits(digits) {
         return SourceNumber::Other;
