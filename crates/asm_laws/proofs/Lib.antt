@@ -3,6 +3,7 @@ pub mod ShapeLaws
 pub mod NumberLaws
 pub mod LabelLaws
 pub mod SpellingLaws
+pub mod SpellingCases
 pub mod PieceLaws
 pub mod JoinLaws
 pub mod StepLaws

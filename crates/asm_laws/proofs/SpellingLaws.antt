@@ -12,7 +12,7 @@ use lib.ListN.{length, take, drop, getD, drop-of-length-le}
 use lib.Seq.{length-take-le, getD-take, getD-drop}
 use Rattle.text.specs.Bytes.{isDigit, isLetter, same}
 use Rattle.text.specs.Scan.{scan, all, isEmpty}
-use Rattle.text.proofs.Laws.{nowhere-among}
+use Rattle.text.proofs.Laws.{both-false, nowhere-among}
 use Rattle.text_read.specs.Numerals.{valueFrom, numeral}
 use Rattle.text_read.specs.declared.Numeral.{Numeral}
 use Rattle.text_read.specs.declared.Numeral.the-variants.{Value, Nothing as NoNumeral}
@@ -176,10 +176,7 @@ decimalShapes = decimalFactored ∷ paired ∷ bare ∷ decimalOffset ∷ regist
 abbrev pub hasHexadecimal : List ℕ → Bool
 hasHexadecimal x = beforeFactor x && isNumeral (hexNumeral (inner x 7)) || beforeOffset x && isNumeral (hexNumeral (inner x 4)) || isNumeral (hexNumeral x)
 
-neither : (t u : Bool) → t || u ≡ false → (t ≡ false) × (u ≡ false)
-neither false u e = (refl, e)
-neither true u e = absurd (true≢false e)
-
+-- of two shapes that differ in n alone, where the first has no hexadecimal one
 narrowed : (p d h : Bool) (a b c e : OperandRead) → p && h ≡ false → (h ≡ false → a ≡ b) → c ≡ e → cond (p && (d || h)) a c ≡ cond (p && d) b e
 narrowed false d h a b c e k f g = g
 narrowed true d true a b c e k f g = absurd (true≢false k)
@@ -194,8 +191,8 @@ module _ (q : Part) where
   pub pieces-stay : hasHexadecimal (q .text) ≡ false → operandOf q ≡ firstMatch decimalShapes q
   unfolding isSourceNumber shapes firstMatch
   pieces-stay e =
-      let a = neither (beforeFactor (q .text) && isNumeral (hexNumeral (inner (q .text) 7)) || beforeOffset (q .text) && isNumeral (hexNumeral (inner (q .text) 4))) (isNumeral (hexNumeral (q .text))) e in
-      let b = neither (beforeFactor (q .text) && isNumeral (hexNumeral (inner (q .text) 7))) (beforeOffset (q .text) && isNumeral (hexNumeral (inner (q .text) 4))) (a .0) in
+      let a = both-false (beforeFactor (q .text) && isNumeral (hexNumeral (inner (q .text) 7)) || beforeOffset (q .text) && isNumeral (hexNumeral (inner (q .text) 4))) (isNumeral (hexNumeral (q .text))) e in
+      let b = both-false (beforeFactor (q .text) && isNumeral (hexNumeral (inner (q .text) 7))) (beforeOffset (q .text) && isNumeral (hexNumeral (inner (q .text) 4))) (a .0) in
       narrowed (beforeFactor (q .text)) _ _ _ _ _ _ (b .0) (λ k. ap (withNumber _) (numbers-stay (inner (q .text) 7) k .1))
       (behind paired _ _
       (behind bare _ _

@@ -2,7 +2,7 @@
 use Prim.Native.Nat.{ℕ, _+_, _≤_}
 use mathlib.Core.Path.{_≡_, refl, sym, ap, subst, _∙_}
 use mathlib.Core.List.{List, [], _∷_, _++_, map}
-use mathlib.Core.Bool.{Bool, true, false, _||_}
+use mathlib.Core.Bool.{Bool}
 use mathlib.Core.Option.{none}
 use native.Mathlib.Omega.{arith}
 use borrow.Author.Needs.{needs}
@@ -10,6 +10,7 @@ use borrow.Author.Tests.{le-leb, ltb-false, le-ltb}
 use lib.ListN.{length, take, drop, length-map, length-append, length-take}
 use lib.Seq.{sets, length-take-le}
 use Rattle.text.specs.Answer.{Answer, ok, refused, _>>=_, _>>_, over, onOk}
+use Rattle.text.proofs.Laws.{both-false}
 use Rattle.text.proofs.AnswerLaws.{not-ok, ok-same, ok-bind, if-passed, at-passed, sets-over}
 use Rattle.asm.specs.Rows.{instructions}
 use Rattle.asm.specs.declared.AsmRow.{AsmRow}
@@ -64,10 +65,6 @@ pub record Filled (s list : List ℕ) (rows : List AsmRow) (room : Room) (a : Ac
   pub labels : a .labels ≡ length (labelRows 0 rows)
   pub wordroom : length (a .words) ≤ room .words
   pub hostroom : length (a .hosts) ≤ room .hosts
-
-both-false : (t u : Bool) → t || u ≡ false → (t ≡ false) × (u ≡ false)
-both-false true u e = let z : _≡_ {A = ℕ} 0 1 = cc in absurd (omega arith)
-both-false false u e = (refl, e)
 
 filled : (s list : List ℕ) (rows : List AsmRow) (room : Room) (a : Accepted) → encodedRows s rows list room ≡ ok a → Filled s list rows room a
 unfolding encodedRows

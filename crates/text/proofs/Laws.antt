@@ -2,7 +2,7 @@
 use Prim.Native.Nat.{ℕ, zero, suc, _+_, _-_, _<_, _≤_}
 use mathlib.Core.Path.{_≡_, refl, sym, ap, _∙_}
 use mathlib.Core.List.{List, [], _∷_}
-use mathlib.Core.Bool.{Bool, true, false, cond, not, _&&_, and-eq-true-iff, true≢false}
+use mathlib.Core.Bool.{Bool, true, false, cond, not, _&&_, _||_, and-eq-true-iff, true≢false}
 use native.Mathlib.Omega.{arith}
 use native.Mathlib.Numerals.{add-one, unary-clauses}
 use native.Mathlib.Nat.{zero-add, zero-sub, le-refl}
@@ -118,6 +118,11 @@ all-scan p (x ∷ xs) h = go (p x) (all-scan p xs) h
     go : (t : Bool) → (scan p xs ≡ length xs → all p xs ≡ true) → cond t (suc (scan p xs)) 0 ≡ suc (length xs) → t && all p xs ≡ true
     go true f k = f (omega arith)
     go false f k = absurd (omega arith)
+
+-- where neither of two is true
+pub both-false : (t u : Bool) → t || u ≡ false → (t ≡ false) × (u ≡ false)
+both-false true u e = absurd (true≢false e)
+both-false false u e = (refl, e)
 
 -- a byte that passes a test is not one that does not
 pub other-byte : (p : ℕ → Bool) (x b : ℕ) → p x ≡ true → p b ≡ false → eqb x b ≡ false
