@@ -128,6 +128,12 @@ operandCases =
     ∷ (bytes "pc", Is (SpecialReg PC))
     ∷ (bytes "psp", Is (SpecialReg PSP))
     ∷ (bytes "pcx", Is (Identifier 7 3))
+    -- a name may begin as another shape does
+    ∷ (bytes "p", Is (Identifier 7 1))
+    ∷ (bytes "psp1", Is (Identifier 7 4))
+    ∷ (bytes "ret1", Is (Identifier 7 4))
+    ∷ (bytes "r1x", Is (Identifier 7 3))
+    ∷ (bytes "R1", Is (Identifier 7 2))
     ∷ (bytes "__f_1", Is (Identifier 7 5))
     ∷ (bytes "_1", Unreadable)
     ∷ (bytes "__", Unreadable)

@@ -1,4 +1,6 @@
-// The operand reader: `from_str` of assembler/src/operands.rs. One function for each shape, tried one after another in document 01's order.
+// The operand reader: `from_str` of assembler/src/operands.rs. One function for each shape, under the name and in the order of that file: `try_reg` is its `regex_reg`.
+// Above each stand 01's shape, the file's pattern as it is written there, and what a Point of 02 changed in it. Where the file matches a pattern and then reads
+// its parts, one function does both here. tests/shapes sees to names, order and patterns.
 use asm::OlaAsmOperand;
 use asm::OperandRead;
 use asm_shapes::SourceNumber;
@@ -9,7 +11,7 @@ ghost use mathlib.Core.Path.{_≡_};
 ghost use Rattle.asm.specs.Operands.{factored, paired, bare, offset, register, number, label, special, name, operandOf};
 ghost use Rattle.asm_operands.specs.Tried.{tried, anchorOf, secondOf};
 
-// What trying a shape finds: the piece has it and is this, or it has another.
+// What trying a shape finds: the piece has it and is this (unreadable where its number is out of range, and no further shape is tried), or it has another.
 pub enum Tried {
     Fits(OperandRead),
     Other,
@@ -45,7 +47,9 @@ fn second(piece: &[u8]) -> RegisterFound
 }
 
 // `[rA,rB,n]`
-fn try_factored(piece: &[u8]) -> Tried
+// r"^\[(?P<reg>r[0-9]),(?P<offset_reg>r[0-9]),(?P<factor>[\+-]?[[:digit:]]+)\]$"
+// 02, Point 4: factor may also be `0x` and one to sixteen hexadecimal digits.
+fn try_reg_with_reg_factored_offset(piece: &[u8]) -> Tried
     ensures { λ r. ⌜ r ≡ tried factored (record { start = 0; text = now (piece .entry) }) ⌝ }
 {
     let first = anchor(piece);
@@ -72,7 +76,8 @@ fn try_factored(piece: &[u8]) -> Tried
 }
 
 // `[rA,rB]` (factor 1)
-fn try_paired(piece: &[u8]) -> Tried
+// r"^\[(?P<reg>r[0-9]),(?P<offset_reg>r[0-9])\]$"
+fn try_reg_with_reg_offset(piece: &[u8]) -> Tried
     ensures { λ r. ⌜ r ≡ tried paired (record { start = 0; text = now (piece .entry) }) ⌝ }
 {
     let first = anchor(piece);
@@ -94,7 +99,8 @@ fn try_paired(piece: &[u8]) -> Tried
 }
 
 // `[rA]` (offset 0)
-fn try_bare(piece: &[u8]) -> Tried
+// r"^\[(?P<reg>r[0-9])\]$"
+fn try_reg_with_default_offset(piece: &[u8]) -> Tried
     ensures { λ r. ⌜ r ≡ tried bare (record { start = 0; text = now (piece .entry) }) ⌝ }
 {
     let first = anchor(piece);
@@ -111,7 +117,9 @@ fn try_bare(piece: &[u8]) -> Tried
 }
 
 // `[rA,n]`
-fn try_offset(piece: &[u8]) -> Tried
+// r"^\[(?P<reg>r[0-9]),(?P<offset>[\+-]?[[:digit:]]+)\]$"
+// 02, Point 4: offset may also be `0x` and one to sixteen hexadecimal digits.
+fn try_reg_offset(piece: &[u8]) -> Tried
     ensures { λ r. ⌜ r ≡ tried offset (record { start = 0; text = now (piece .entry) }) ⌝ }
 {
     let first = anchor(piece);
@@ -134,7 +142,8 @@ fn try_offset(piece: &[u8]) -> Tried
 }
 
 // `rA`
-fn try_register(piece: &[u8]) -> Tried
+// r"^(?P<reg>r[0-9])$"
+fn try_reg(piece: &[u8]) -> Tried
     ensures { λ r. ⌜ r ≡ tried register (record { start = 0; text = now (piece .entry) }) ⌝ }
 {
     match vm_registers::register_from_str(piece) {
@@ -146,7 +155,9 @@ fn try_register(piece: &[u8]) -> Tried
 }
 
 // n
-fn try_number(piece: &[u8]) -> Tried
+// r"^(?P<imm>[\+-]?[[:digit:]]+)$"
+// 02, Point 4: imm may also be `0x` and one to sixteen hexadecimal digits.
+fn try_immediate_value(piece: &[u8]) -> Tried
     ensures { λ r. ⌜ r ≡ tried number (record { start = 0; text = now (piece .entry) }) ⌝ }
 {
     match asm_shapes::source_number(piece) {
@@ -158,7 +169,9 @@ fn try_number(piece: &[u8]) -> Tried
     }
 }
 
-// A dot, `LBL`, digits, `_`, digits.
+// A label: a dot, `LBL`, digits, `_`, digits.
+// r"^(?P<label>.LBL[[:digit:]]+_[[:digit:]]+)$"
+// 02, Point 2: the first character is a dot, where the pattern takes any.
 fn try_label(piece: &[u8], start: usize) -> Tried
     ensures { λ r. ⌜ r ≡ tried label (record { start = start; text = now (piece .entry) }) ⌝ }
 {
@@ -181,7 +194,8 @@ fn try_label(piece: &[u8], start: usize) -> Tried
 }
 
 // `pc` or `psp`
-fn try_special(piece: &[u8]) -> Tried
+// OlaSpecialRegister::from_str(s), of core/src/vm/hardware.rs: "pc" or "psp"
+fn try_special_reg(piece: &[u8]) -> Tried
     ensures { λ r. ⌜ r ≡ tried special (record { start = 0; text = now (piece .entry) }) ⌝ }
 {
     match vm_registers::special_from_str(piece) {
@@ -193,7 +207,8 @@ fn try_special(piece: &[u8]) -> Tried
 }
 
 // A name.
-fn try_name(piece: &[u8], start: usize) -> Tried
+// r"^(?P<identifier>_*[[:alpha:]]+[[:word:]]*)$"
+fn try_identifier(piece: &[u8], start: usize) -> Tried
     ensures { λ r. ⌜ r ≡ tried name (record { start = start; text = now (piece .entry) }) ⌝ }
 {
     if !asm_shapes::is_name(piece) {
@@ -209,31 +224,31 @@ fn try_name(piece: &[u8], start: usize) -> Tried
 pub fn from_str(piece: &[u8], start: usize) -> OperandRead
     ensures { λ r. ⌜ r ≡ operandOf (record { start = start; text = now (piece .entry) }) ⌝ }
 {
-    if let Tried::Fits(o) = try_factored(piece) {
+    if let Tried::Fits(o) = try_reg_with_reg_factored_offset(piece) {
         return o;
     }
-    if let Tried::Fits(o) = try_paired(piece) {
+    if let Tried::Fits(o) = try_reg_with_reg_offset(piece) {
         return o;
     }
-    if let Tried::Fits(o) = try_bare(piece) {
+    if let Tried::Fits(o) = try_reg_with_default_offset(piece) {
         return o;
     }
-    if let Tried::Fits(o) = try_offset(piece) {
+    if let Tried::Fits(o) = try_reg_offset(piece) {
         return o;
     }
-    if let Tried::Fits(o) = try_register(piece) {
+    if let Tried::Fits(o) = try_reg(piece) {
         return o;
     }
-    if let Tried::Fits(o) = try_number(piece) {
+    if let Tried::Fits(o) = try_immediate_value(piece) {
         return o;
     }
     if let Tried::Fits(o) = try_label(piece, start) {
         return o;
     }
-    if let Tried::Fits(o) = try_special(piece) {
+    if let Tried::Fits(o) = try_special_reg(piece) {
         return o;
     }
-    if let Tried::Fits(o) = try_name(piece, start) {
+    if let Tried::Fits(o) = try_identifier(piece, start) {
         return o;
     }
     OperandRead::Unreadable

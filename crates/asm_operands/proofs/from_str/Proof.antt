@@ -4,8 +4,8 @@ use borrow.Author.Needs.{needs}
 use Rattle.asm_operands.proofs.from_str.Statement.{statement}
 use Rattle.asm_operands.proofs.from_str.Tie as tie
 
-try-factored-requires : tie.Need-try-factored-requires
-try-factored-requires c κs = search needs
+try-reg-with-reg-factored-offset-requires : tie.Need-try-reg-with-reg-factored-offset-requires
+try-reg-with-reg-factored-offset-requires c κs = search needs
 
 enum-known-o : tie.Need-enum-known-o
 enum-known-o c = search needs
@@ -16,8 +16,8 @@ returns c = search first-laws
 enum-told : tie.Need-enum-told
 enum-told c = search needs
 
-try-paired-requires : tie.Need-try-paired-requires
-try-paired-requires c κs = search needs
+try-reg-with-reg-offset-requires : tie.Need-try-reg-with-reg-offset-requires
+try-reg-with-reg-offset-requires c κs = search needs
 
 enum-known-o-2 : tie.Need-enum-known-o-2
 enum-known-o-2 c = search needs
@@ -28,8 +28,8 @@ returns-2 c = search first-laws
 enum-told-2 : tie.Need-enum-told-2
 enum-told-2 c = search needs
 
-try-bare-requires : tie.Need-try-bare-requires
-try-bare-requires c κs = search needs
+try-reg-with-default-offset-requires : tie.Need-try-reg-with-default-offset-requires
+try-reg-with-default-offset-requires c κs = search needs
 
 enum-known-o-3 : tie.Need-enum-known-o-3
 enum-known-o-3 c = search needs
@@ -40,8 +40,8 @@ returns-3 c = search first-laws
 enum-told-3 : tie.Need-enum-told-3
 enum-told-3 c = search needs
 
-try-offset-requires : tie.Need-try-offset-requires
-try-offset-requires c κs = search needs
+try-reg-offset-requires : tie.Need-try-reg-offset-requires
+try-reg-offset-requires c κs = search needs
 
 enum-known-o-4 : tie.Need-enum-known-o-4
 enum-known-o-4 c = search needs
@@ -52,8 +52,8 @@ returns-4 c = search first-laws
 enum-told-4 : tie.Need-enum-told-4
 enum-told-4 c = search needs
 
-try-register-requires : tie.Need-try-register-requires
-try-register-requires c κs = search needs
+try-reg-requires : tie.Need-try-reg-requires
+try-reg-requires c κs = search needs
 
 enum-known-o-5 : tie.Need-enum-known-o-5
 enum-known-o-5 c = search needs
@@ -64,8 +64,8 @@ returns-5 c = search first-laws
 enum-told-5 : tie.Need-enum-told-5
 enum-told-5 c = search needs
 
-try-number-requires : tie.Need-try-number-requires
-try-number-requires c κs = search needs
+try-immediate-value-requires : tie.Need-try-immediate-value-requires
+try-immediate-value-requires c κs = search needs
 
 enum-known-o-6 : tie.Need-enum-known-o-6
 enum-known-o-6 c = search needs
@@ -88,8 +88,8 @@ returns-7 c = search first-laws
 enum-told-7 : tie.Need-enum-told-7
 enum-told-7 c = search needs
 
-try-special-requires : tie.Need-try-special-requires
-try-special-requires c κs = search needs
+try-special-reg-requires : tie.Need-try-special-reg-requires
+try-special-reg-requires c κs = search needs
 
 enum-known-o-8 : tie.Need-enum-known-o-8
 enum-known-o-8 c = search needs
@@ -100,8 +100,8 @@ returns-8 c = search first-laws
 enum-told-8 : tie.Need-enum-told-8
 enum-told-8 c = search needs
 
-try-name-requires : tie.Need-try-name-requires
-try-name-requires c κs = search needs
+try-identifier-requires : tie.Need-try-identifier-requires
+try-identifier-requires c κs = search needs
 
 enum-known-o-9 : tie.Need-enum-known-o-9
 enum-known-o-9 c = search needs
@@ -119,27 +119,27 @@ pub from-str-spec : {M : Type 1} → statement M
 from-str-spec =
     tie.close
     (tie.spec
-    try-factored-requires
+    try-reg-with-reg-factored-offset-requires
     enum-known-o
     returns
     enum-told
-    try-paired-requires
+    try-reg-with-reg-offset-requires
     enum-known-o-2
     returns-2
     enum-told-2
-    try-bare-requires
+    try-reg-with-default-offset-requires
     enum-known-o-3
     returns-3
     enum-told-3
-    try-offset-requires
+    try-reg-offset-requires
     enum-known-o-4
     returns-4
     enum-told-4
-    try-register-requires
+    try-reg-requires
     enum-known-o-5
     returns-5
     enum-told-5
-    try-number-requires
+    try-immediate-value-requires
     enum-known-o-6
     returns-6
     enum-told-6
@@ -147,11 +147,11 @@ from-str-spec =
     enum-known-o-7
     returns-7
     enum-told-7
-    try-special-requires
+    try-special-reg-requires
     enum-known-o-8
     returns-8
     enum-told-8
-    try-name-requires
+    try-identifier-requires
     enum-known-o-9
     returns-9
     enum-told-9

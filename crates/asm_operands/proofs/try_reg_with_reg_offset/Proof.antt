@@ -1,8 +1,8 @@
--- `try_paired` meets its contract.
+-- `try_reg_with_reg_offset` meets its contract.
 use Rattle.asm_operands.proofs.Laws.{paired-laws}
 use borrow.Author.Needs.{needs}
-use Rattle.asm_operands.proofs.try_paired.Statement.{statement}
-use Rattle.asm_operands.proofs.try_paired.Tie as tie
+use Rattle.asm_operands.proofs.try_reg_with_reg_offset.Statement.{statement}
+use Rattle.asm_operands.proofs.try_reg_with_reg_offset.Tie as tie
 
 anchor-requires : tie.Need-anchor-requires
 anchor-requires c κs = search needs
@@ -34,8 +34,8 @@ returns-3 c = search paired-laws
 returns-4 : tie.Need-returns-4
 returns-4 c = search paired-laws
 
-pub try-paired-spec : {M : Type 1} → statement M
-try-paired-spec =
+pub try-reg-with-reg-offset-spec : {M : Type 1} → statement M
+try-reg-with-reg-offset-spec =
     tie.close
     (tie.spec
     anchor-requires

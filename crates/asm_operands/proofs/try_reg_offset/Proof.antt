@@ -1,8 +1,8 @@
--- `try_offset` meets its contract.
+-- `try_reg_offset` meets its contract.
 use Rattle.asm_operands.proofs.Laws.{offset-laws}
 use borrow.Author.Needs.{needs}
-use Rattle.asm_operands.proofs.try_offset.Statement.{statement}
-use Rattle.asm_operands.proofs.try_offset.Tie as tie
+use Rattle.asm_operands.proofs.try_reg_offset.Statement.{statement}
+use Rattle.asm_operands.proofs.try_reg_offset.Tie as tie
 
 anchor-requires : tie.Need-anchor-requires
 anchor-requires c κs = search needs
@@ -55,8 +55,8 @@ returns-4 c = search offset-laws
 returns-5 : tie.Need-returns-5
 returns-5 c = search offset-laws
 
-pub try-offset-spec : {M : Type 1} → statement M
-try-offset-spec =
+pub try-reg-offset-spec : {M : Type 1} → statement M
+try-reg-offset-spec =
     tie.close
     (tie.spec
     anchor-requires

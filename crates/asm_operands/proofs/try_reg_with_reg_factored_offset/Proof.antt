@@ -1,8 +1,8 @@
--- `try_factored` meets its contract.
+-- `try_reg_with_reg_factored_offset` meets its contract.
 use Rattle.asm_operands.proofs.Laws.{factored-laws}
 use borrow.Author.Needs.{needs}
-use Rattle.asm_operands.proofs.try_factored.Statement.{statement}
-use Rattle.asm_operands.proofs.try_factored.Tie as tie
+use Rattle.asm_operands.proofs.try_reg_with_reg_factored_offset.Statement.{statement}
+use Rattle.asm_operands.proofs.try_reg_with_reg_factored_offset.Tie as tie
 
 anchor-requires : tie.Need-anchor-requires
 anchor-requires c κs = search needs
@@ -67,8 +67,8 @@ returns-5 c = search factored-laws
 returns-6 : tie.Need-returns-6
 returns-6 c = search factored-laws
 
-pub try-factored-spec : {M : Type 1} → statement M
-try-factored-spec =
+pub try-reg-with-reg-factored-offset-spec : {M : Type 1} → statement M
+try-reg-with-reg-factored-offset-spec =
     tie.close
     (tie.spec
     anchor-requires

@@ -1,8 +1,8 @@
--- `try_number` meets its contract.
+-- `try_immediate_value` meets its contract.
 use Rattle.asm_operands.proofs.OtherLaws.{number-laws}
 use borrow.Author.Needs.{needs}
-use Rattle.asm_operands.proofs.try_number.Statement.{statement}
-use Rattle.asm_operands.proofs.try_number.Tie as tie
+use Rattle.asm_operands.proofs.try_immediate_value.Statement.{statement}
+use Rattle.asm_operands.proofs.try_immediate_value.Tie as tie
 
 source-number-requires : tie.Need-source-number-requires
 source-number-requires c κs = search needs
@@ -25,8 +25,8 @@ returns-2 c = search number-laws
 returns-3 : tie.Need-returns-3
 returns-3 c = search number-laws
 
-pub try-number-spec : {M : Type 1} → statement M
-try-number-spec =
+pub try-immediate-value-spec : {M : Type 1} → statement M
+try-immediate-value-spec =
     tie.close
     (tie.spec
     source-number-requires

@@ -1,8 +1,8 @@
--- `try_special` meets its contract.
+-- `try_special_reg` meets its contract.
 use Rattle.asm_operands.proofs.OtherLaws.{special-laws}
 use borrow.Author.Needs.{needs}
-use Rattle.asm_operands.proofs.try_special.Statement.{statement}
-use Rattle.asm_operands.proofs.try_special.Tie as tie
+use Rattle.asm_operands.proofs.try_special_reg.Statement.{statement}
+use Rattle.asm_operands.proofs.try_special_reg.Tie as tie
 
 special-from-str-requires : tie.Need-special-from-str-requires
 special-from-str-requires c κs = search needs
@@ -19,6 +19,6 @@ returns c = search special-laws
 returns-2 : tie.Need-returns-2
 returns-2 c = search special-laws
 
-pub try-special-spec : {M : Type 1} → statement M
-try-special-spec =
+pub try-special-reg-spec : {M : Type 1} → statement M
+try-special-reg-spec =
     tie.close (tie.spec special-from-str-requires enum-known-s enum-told returns returns-2)
