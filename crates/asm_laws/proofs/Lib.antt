@@ -4,6 +4,8 @@ pub mod NumberLaws
 pub mod LabelLaws
 pub mod SpellingLaws
 pub mod SpellingCases
+pub mod OrderLaws
+pub mod OrderCases
 pub mod PieceLaws
 pub mod JoinLaws
 pub mod StepLaws

@@ -59,7 +59,7 @@ module _ (x : List ℕ) (e : isNumeral (hexNumeral x) ≡ true) where
       (rw (hex-told .0) (n .1 ∙ ap Value v), rw (← v) b)
 
   -- it begins with `0x`
-  hex-first : (byteIs x 0 48 ≡ true) × (byteIs x 1 120 ≡ true)
+  pub hex-first : (byteIs x 0 48 ≡ true) × (byteIs x 1 120 ≡ true)
   hex-first = and-eq-true-iff (byteIs x 0 48) (byteIs x 1 120) .0 (and-eq-true-iff (byteIs x 0 48 && byteIs x 1 120) (ltb (length x) 19) .0 (hex-told .0) .0)
 
   -- such a text was no number
@@ -205,19 +205,21 @@ module _ (q : Part) where
       rest = firstMatch (label ∷ special ∷ name ∷ []) q
 
 -- the first byte of what stands in brackets from place k on is the byte there
-inner-first : (x : List ℕ) (k : ℕ) → k < length x - 1 → getD (inner x k) 0 0 ≡ getD x k 0
+pub inner-first : (x : List ℕ) (k : ℕ) → k < length x - 1 → getD (inner x k) 0 0 ≡ getD x k 0
 inner-first x k h = getD-drop k (take (length x - 1) x) 0 0 ∙ ap (λ (i : ℕ). getD (take (length x - 1) x) i 0) (omega arith) ∙ getD-take (length x - 1) x k 0 h
 
--- and there is one, where it is not 0
-inner-there : (x : List ℕ) (k : ℕ) → byteIs (inner x k) 0 48 ≡ true → k < length x - 1
-inner-there x k e = go (ltb k (length x - 1)) refl
+-- and there is one, where anything stands there
+pub inner-some : (x : List ℕ) (k : ℕ) → (inner x k ≡ [] → ⊥) → k < length x - 1
+inner-some x k e = go (ltb k (length x - 1)) refl
   where
     go : (t : Bool) → ltb k (length x - 1) ≡ t → k < length x - 1
     go true f = ltb-true k (length x - 1) f
     go false f =
         let l : length (take (length x - 1) x) ≤ k = let m = length-take-le (length x - 1) x (omega arith) in let n = ltb-false k (length x - 1) f in omega arith in
-        let z : inner x k ≡ [] = drop-of-length-le (take (length x - 1) x) l in
-        absurd (true≢false (sym e ∙ ap (λ (y : List ℕ). byteIs y 0 48) z))
+        absurd (e (drop-of-length-le (take (length x - 1) x) l))
+
+inner-there : (x : List ℕ) (k : ℕ) → byteIs (inner x k) 0 48 ≡ true → k < length x - 1
+inner-there x k e = inner-some x k (λ z. true≢false (sym e ∙ ap (λ (y : List ℕ). byteIs y 0 48) z))
 
 -- no digits behind a letter `r`
 no-digits : (y : List ℕ) → getD y 0 0 ≡ 114 → isDigits (unsigned y) ≡ false
