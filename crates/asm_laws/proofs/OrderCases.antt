@@ -1,16 +1,12 @@
 -- The laws of OrderLaws on examples.
-use Prim.Native.Nat.{ℕ, zero, suc, _-_, _<_}
+use Prim.Native.Nat.{ℕ, _<_}
 use mathlib.Core.Path.{_≡_, refl}
 use mathlib.Core.List.{List, [], _∷_, _++_, map}
-use mathlib.Core.Bool.{true}
-use mathlib.Core.Option.{some}
+use mathlib.Core.Bool.{true, _||_}
 use mathlib.Core.Logic.{_⊎_}
-use native.Mathlib.Omega.{arith}
 use lib.Dec.{lit<}
-use lib.ListN.{getElem?}
 use Rattle.text.specs.Bytes.{bytes, isDigit, isLetter, isWord, same}
 use Rattle.text.specs.Scan.{scan, all}
-use Rattle.text.specs.All.{All, none-left, one-more}
 use Rattle.vm_hardware.specs.Registers.{registers, registerOf, specialOf}
 use Rattle.vm_hardware.specs.declared.OlaRegister.the-variants.{R1}
 use Rattle.vm_hardware.specs.declared.OlaSpecialRegister.the-variants.{PC}
@@ -18,7 +14,7 @@ use Rattle.asm.specs.Parts.{Part}
 use Rattle.asm.specs.Operands.{isSourceNumber, name, shapes, firstMatch, operandOf}
 use Rattle.asm.specs.declared.OlaAsmOperand.the-variants.{RegisterOperand, SpecialReg, Identifier}
 use Rattle.asm.specs.declared.OperandRead.the-variants.{Is}
-use Rattle.asm_laws.proofs.OrderLaws.{unnamed, shapeAt, one-shape, names-apart, any-order}
+use Rattle.asm_laws.proofs.OrderLaws.{unnamed, shapeAt, each-place, one-shape, names-apart, isAmong, any-order}
 
 -- `[rA,rB]`, at 1, has none of the other seven
 paired-alone : (k : ℕ) → k < 8 → shapeAt k .fits (bytes "[r2,r3]") ≡ true → 1 ≡ k
@@ -30,26 +26,13 @@ register-named : (k : ℕ) → k < 8 → shapeAt k .fits (bytes "r1") ≡ true �
 unfolding isLetter isDigit isWord scan all
 register-named = names-apart (bytes "r1") refl
 
--- the eight from the last to the first
-abbrev backwards : List ℕ
-backwards = 7 ∷ 6 ∷ 5 ∷ 4 ∷ 3 ∷ 2 ∷ 1 ∷ 0 ∷ []
-
-backwards-read : (q : Part) → firstMatch (map shapeAt backwards ++ name ∷ []) q ≡ operandOf q
-backwards-read q = any-order q backwards below (λ k h. (7 - k, there k h))
+-- from the last to the first, the name behind the register
+backwards-read : (q : Part) → firstMatch (map shapeAt (7 ∷ 6 ∷ 5 ∷ 4 ∷ []) ++ name ∷ map shapeAt (3 ∷ 2 ∷ 1 ∷ 0 ∷ [])) q ≡ operandOf q
+unfolding all isAmong
+backwards-read q = any-order q (7 ∷ 6 ∷ 5 ∷ 4 ∷ []) (3 ∷ 2 ∷ 1 ∷ 0 ∷ []) refl refl each refl refl
   where
-    below : All (λ k. k < 8) backwards
-    below = one-more (lit< tt) (one-more (lit< tt) (one-more (lit< tt) (one-more (lit< tt) (one-more (lit< tt) (one-more (lit< tt) (one-more (lit< tt) (one-more (lit< tt) none-left)))))))
-
-    there : (k : ℕ) → k < 8 → getElem? backwards (7 - k) ≡ some k
-    there zero h = refl
-    there (suc zero) h = refl
-    there (suc (suc zero)) h = refl
-    there (suc (suc (suc zero))) h = refl
-    there (suc (suc (suc (suc zero)))) h = refl
-    there (suc (suc (suc (suc (suc zero))))) h = refl
-    there (suc (suc (suc (suc (suc (suc zero)))))) h = refl
-    there (suc (suc (suc (suc (suc (suc (suc zero))))))) h = refl
-    there (suc (suc (suc (suc (suc (suc (suc (suc k)))))))) h = absurd (omega arith)
+    each : (k : ℕ) → k < 8 → isAmong k (7 ∷ 6 ∷ 5 ∷ 4 ∷ []) || isAmong k (3 ∷ 2 ∷ 1 ∷ 0 ∷ []) ≡ true
+    each = each-place (λ (k : ℕ). isAmong k (7 ∷ 6 ∷ 5 ∷ 4 ∷ []) || isAmong k (3 ∷ 2 ∷ 1 ∷ 0 ∷ []) ≡ true) refl refl refl refl refl refl refl refl
 
 -- but with the name before them `r1` and `pc` are read otherwise
 abbrev piece : List ℕ → Part

@@ -1,18 +1,17 @@
 -- Document 02, Point 5: what comes of it that shapes are "tried in that file's own order, one after another". A piece has one at most of the eight shapes before
--- the name, so whatever their order, with the name behind them it is read alike; and a name has none of the eight but a register's or a special register's.
+-- the name, and a name has none of them but a register's or a special register's. So whatever the order of the nine, with these two before the name a piece is
+-- read alike.
 use Prim.Native.Nat.{ℕ, zero, suc, _-_, _<_}
 use mathlib.Core.Path.{_≡_, refl, sym, ap, _∙_, subst}
-use mathlib.Core.List.{List, [], _∷_, _++_, map}
+use mathlib.Core.List.{List, [], _∷_, _++_, map, append-nil}
 use mathlib.Core.Bool.{Bool, true, false, _&&_, _||_, cond, and-eq-true-iff, and-false, or-true, true≢false}
-use mathlib.Core.Option.{some}
 use mathlib.Core.Logic.{_⊎_, inl, inr}
 use native.Mathlib.Omega.{arith}
-use borrow.Author.Tests.{eqb-true, ne-eqb, lt-leb, ltb-true, ltb-false}
-use lib.Dec.{eqb, leb, ltb, lit<}
-use lib.ListN.{length, drop, getD, getElem?}
+use borrow.Author.Tests.{eqb-true, eq-eqb, ne-eqb, lt-leb, ltb-true, ltb-false}
+use lib.Dec.{eqb, leb, ltb}
+use lib.ListN.{length, drop, getD}
 use Rattle.text.specs.Bytes.{bytes, isDigit, isLetter, isWord, same}
 use Rattle.text.specs.Scan.{scan, all}
-use Rattle.text.specs.All.{All, none-left, one-more}
 use Rattle.text.proofs.Laws.{other-byte}
 use Rattle.text.proofs.ClassLaws.{letter-low}
 use Rattle.text.proofs.SameLaws.{same-equal}
@@ -21,6 +20,7 @@ use Rattle.vm_operands.specs.Numbers.{unsigned}
 use Rattle.asm.specs.Parts.{Part}
 use Rattle.asm.specs.Operands.{byteIs, isDigits, hexNumeral, isNumeral, isSourceNumber, isRegisterAt, inner, isBracketed, isName, Shape, factored, paired, bare, offset, register, number, label, special, name, shapes, firstMatch, operandOf}
 use Rattle.asm.specs.declared.OperandRead.{OperandRead}
+use Rattle.asm.specs.declared.OperandRead.the-variants.{Unreadable}
 use Rattle.asm_laws.proofs.LabelLaws.{isNameFirst}
 use Rattle.asm_laws.proofs.SpellingLaws.{beforeFactor, beforeOffset, hex-first, inner-first, inner-some}
 
@@ -30,6 +30,18 @@ unnamed = factored ∷ paired ∷ bare ∷ offset ∷ register ∷ number ∷ la
 
 abbrev pub shapeAt : ℕ → Shape
 shapeAt k = getD unnamed k name
+
+-- what holds of each of the eight places
+pub each-place : (P : ℕ → Type 0) → P 0 → P 1 → P 2 → P 3 → P 4 → P 5 → P 6 → P 7 → (k : ℕ) → k < 8 → P k
+each-place P p0 p1 p2 p3 p4 p5 p6 p7 zero h = p0
+each-place P p0 p1 p2 p3 p4 p5 p6 p7 (suc zero) h = p1
+each-place P p0 p1 p2 p3 p4 p5 p6 p7 (suc (suc zero)) h = p2
+each-place P p0 p1 p2 p3 p4 p5 p6 p7 (suc (suc (suc zero))) h = p3
+each-place P p0 p1 p2 p3 p4 p5 p6 p7 (suc (suc (suc (suc zero)))) h = p4
+each-place P p0 p1 p2 p3 p4 p5 p6 p7 (suc (suc (suc (suc (suc zero))))) h = p5
+each-place P p0 p1 p2 p3 p4 p5 p6 p7 (suc (suc (suc (suc (suc (suc zero)))))) h = p6
+each-place P p0 p1 p2 p3 p4 p5 p6 p7 (suc (suc (suc (suc (suc (suc (suc zero))))))) h = p7
+each-place P p0 p1 p2 p3 p4 p5 p6 p7 (suc (suc (suc (suc (suc (suc (suc (suc k)))))))) h = absurd (omega arith)
 
 -- the place of the only one that a piece can have, told by single bytes
 abbrev onlyPlace : List ℕ → ℕ
@@ -145,15 +157,9 @@ module _ (x : List ℕ) where
 
   -- so one of the eight that a piece has stands at the place that its bytes tell
   one-place : (k : ℕ) → k < 8 → shapeAt k .fits x ≡ true → onlyPlace x ≡ k
-  one-place zero h e = factored-place e
-  one-place (suc zero) h e = paired-place e
-  one-place (suc (suc zero)) h e = bare-place e
-  one-place (suc (suc (suc zero))) h e = offset-place e
-  one-place (suc (suc (suc (suc zero)))) h e = register-place e
-  one-place (suc (suc (suc (suc (suc zero))))) h e = number-place e
-  one-place (suc (suc (suc (suc (suc (suc zero)))))) h e = label-place e
-  one-place (suc (suc (suc (suc (suc (suc (suc zero))))))) h e = special-place e
-  one-place (suc (suc (suc (suc (suc (suc (suc (suc k)))))))) h e = absurd (omega arith)
+  one-place =
+      each-place (λ (k : ℕ). shapeAt k .fits x ≡ true → onlyPlace x ≡ k)
+      factored-place paired-place bare-place offset-place register-place number-place label-place special-place
 
   -- ---- of the eight shapes before the name a piece has one at most
   pub one-shape : (j k : ℕ) → j < 8 → k < 8 → shapeAt j .fits x ≡ true → shapeAt k .fits x ≡ true → j ≡ k
@@ -218,58 +224,78 @@ module _ (x : List ℕ) where
           let p : k ≡ 5 = sym place ∙ rw (i, j, l, m) in
           absurd (name-other (getD x 0 0) first (number-first x (subst (λ (n : ℕ). shapeAt n .fits x ≡ true) p f)))
 
--- ---- whatever the order of the eight, with the name behind them a piece is read alike
+-- ---- whatever the order of the nine, with the register and the special register before the name, a piece is read alike
 
 -- 01's order, as places
 abbrev places : List ℕ
 places = 0 ∷ 1 ∷ 2 ∷ 3 ∷ 4 ∷ 5 ∷ 6 ∷ 7 ∷ []
 
--- every place stands in it
-own : (k : ℕ) → k < 8 → getElem? places k ≡ some k
-own zero h = refl
-own (suc zero) h = refl
-own (suc (suc zero)) h = refl
-own (suc (suc (suc zero))) h = refl
-own (suc (suc (suc (suc zero)))) h = refl
-own (suc (suc (suc (suc (suc zero))))) h = refl
-own (suc (suc (suc (suc (suc (suc zero)))))) h = refl
-own (suc (suc (suc (suc (suc (suc (suc zero))))))) h = refl
-own (suc (suc (suc (suc (suc (suc (suc (suc k)))))))) h = absurd (omega arith)
+-- places of the eight, and whether one is among them
+abbrev pub arePlaces : List ℕ → Bool
+arePlaces ks = all (λ k. ltb k 8) ks
+
+unfoldable pub isAmong : ℕ → List ℕ → Bool
+isAmong k [] = false
+isAmong k (j ∷ js) = eqb j k || isAmong k js
+
+own : (k : ℕ) → k < 8 → isAmong k places ≡ true
+unfolding isAmong
+own = each-place (λ (k : ℕ). isAmong k places ≡ true) refl refl refl refl refl refl refl refl
 
 module _ (q : Part) where
   abbrev place : ℕ
   place = onlyPlace (q .text)
 
-  -- by the one shape that can fit, and those behind the eight
-  abbrev read : List Shape → OperandRead
-  read rest = cond (shapeAt place .fits (q .text)) (shapeAt place .means q) (firstMatch rest q)
+  -- by the one shape that can fit, where that is tried, and those behind
+  abbrev read : Bool → List Shape → OperandRead
+  read tried rest = cond (shapeAt place .fits (q .text) && tried) (shapeAt place .means q) (firstMatch rest q)
 
-  -- that is how a list of the eight reads, if this one is in it or does not fit
-  by-places : (ks : List ℕ) (rest : List Shape) → All (λ k. k < 8) ks → (shapeAt place .fits (q .text) ≡ false) ⊎ ((i : ℕ) × (getElem? ks i ≡ some place))
-      → firstMatch (map shapeAt ks ++ rest) q ≡ read rest
-  unfolding firstMatch
-  by-places [] rest none-left (inl f) = sym (rw f)
-  by-places [] rest none-left (inr w) = let z : _≡_ {A = ℕ} 0 1 = let e = w .1 in cc in absurd (omega arith)
-  by-places (k ∷ ks) rest (one-more h hs) u = go (shapeAt k .fits (q .text)) refl (λ g. by-places ks rest hs (later g u))
+  -- that is how a list of the eight reads
+  by-places : (ks : List ℕ) (rest : List Shape) → arePlaces ks ≡ true → firstMatch (map shapeAt ks ++ rest) q ≡ read (isAmong place ks) rest
+  unfolding firstMatch all isAmong
+  by-places [] rest h = sym (rw (and-false (shapeAt place .fits (q .text))))
+  by-places (k ∷ ks) rest h = go (shapeAt k .fits (q .text)) refl (eqb k place) refl (by-places ks rest (below .1))
     where
-      later : shapeAt k .fits (q .text) ≡ false → (shapeAt place .fits (q .text) ≡ false) ⊎ ((i : ℕ) × (getElem? (k ∷ ks) i ≡ some place))
-          → (shapeAt place .fits (q .text) ≡ false) ⊎ ((i : ℕ) × (getElem? ks i ≡ some place))
-      later g (inl f) = inl f
-      later g (inr (zero, e)) = let p : k ≡ place = cc in inl (subst (λ (n : ℕ). shapeAt n .fits (q .text) ≡ false) p g)
-      later g (inr (suc i, e)) = inr (i, e)
+      below : (ltb k 8 ≡ true) × (arePlaces ks ≡ true)
+      below = and-eq-true-iff (ltb k 8) (arePlaces ks) .0 h
 
-      go : (t : Bool) → shapeAt k .fits (q .text) ≡ t → (shapeAt k .fits (q .text) ≡ false → firstMatch (map shapeAt ks ++ rest) q ≡ read rest)
-          → firstMatch (map shapeAt (k ∷ ks) ++ rest) q ≡ read rest
-      go true g r =
-          subst (λ (n : ℕ). firstMatch (map shapeAt (k ∷ ks) ++ rest) q ≡ cond (shapeAt n .fits (q .text)) (shapeAt n .means q) (firstMatch rest q)) (sym (one-place (q .text) k h g)) (rw g)
-      go false g r = rw g (r g)
+      go : (t : Bool) → shapeAt k .fits (q .text) ≡ t → (u : Bool) → eqb k place ≡ u → firstMatch (map shapeAt ks ++ rest) q ≡ read (isAmong place ks) rest
+          → cond t (shapeAt k .means q) (firstMatch (map shapeAt ks ++ rest) q) ≡ read (u || isAmong place ks) rest
+      go true g true i r = let p : k ≡ place = eqb-true k place i in rw (← p, g)
+      go true g false i r = let p : k ≡ place = sym (one-place (q .text) k (ltb-true k 8 (below .0)) g) in absurd (true≢false (sym (eq-eqb k place p) ∙ i))
+      go false g true i r = let p : k ≡ place = eqb-true k place i in r ∙ rw (← p, g)
+      go false g false i r = r
 
-  -- an order is a list of places below 8 in which each of them stands
-  pub any-order : (ks : List ℕ) → All (λ k. k < 8) ks → ((k : ℕ) → k < 8 → (i : ℕ) × (getElem? ks i ≡ some k)) → firstMatch (map shapeAt ks ++ name ∷ []) q ≡ operandOf q
-  unfolding shapes
-  any-order ks h e =
-      by-places ks (name ∷ []) h (inr (e place (place-below (q .text))))
-      ∙ sym (by-places places (name ∷ []) below (inr (place, own place (place-below (q .text)))))
-    where
-      below : All (λ k. k < 8) places
-      below = one-more (lit< tt) (one-more (lit< tt) (one-more (lit< tt) (one-more (lit< tt) (one-more (lit< tt) (one-more (lit< tt) (one-more (lit< tt) (one-more (lit< tt) none-left)))))))
+  -- an order is what stands before the name and what stands behind it: between them each of the eight
+  module _ (before after : List ℕ) (b : arePlaces before ≡ true) (a : arePlaces after ≡ true) (each : (k : ℕ) → k < 8 → isAmong k before || isAmong k after ≡ true) where
+    pub any-order : isAmong 4 before ≡ true → isAmong 7 before ≡ true → firstMatch (map shapeAt before ++ name ∷ map shapeAt after) q ≡ operandOf q
+    unfolding shapes firstMatch all
+    any-order r s =
+        by-places before (name ∷ map shapeAt after) b
+        ∙ ap (λ (o : OperandRead). cond (shapeAt place .fits (q .text) && isAmong place before) (shapeAt place .means q) (cond (isName (q .text)) (name .means q) o)) behind
+        ∙ go (shapeAt place .fits (q .text)) refl (isAmong place before) refl (isAmong place after) (each place here) (isName (q .text)) refl
+        ∙ ap (λ (t : Bool). read t (name ∷ [])) (sym (own place here))
+        ∙ sym (by-places places (name ∷ []) refl)
+      where
+        here : place < 8
+        here = place-below (q .text)
+
+        behind : firstMatch (map shapeAt after) q ≡ read (isAmong place after) []
+        behind = ap (λ (ss : List Shape). firstMatch ss q) (sym (append-nil (map shapeAt after))) ∙ by-places after [] a
+
+        -- where the shape that fits stands behind the name, the piece is no name
+        no-name : shapeAt place .fits (q .text) ≡ true → isName (q .text) ≡ true → isAmong place before ≡ false → ⊥
+        no-name f n h = at (names-apart (q .text) n place here f)
+          where
+            at : (place ≡ 4) ⊎ (place ≡ 7) → ⊥
+            at (inl p) = true≢false (sym r ∙ rw (← p) h)
+            at (inr p) = true≢false (sym s ∙ rw (← p) h)
+
+        go : (f : Bool) → shapeAt place .fits (q .text) ≡ f → (t : Bool) → isAmong place before ≡ t → (u : Bool) → t || u ≡ true → (n : Bool) → isName (q .text) ≡ n
+            → cond (f && t) (shapeAt place .means q) (cond n (name .means q) (cond (f && u) (shapeAt place .means q) Unreadable))
+            ≡ cond (f && true) (shapeAt place .means q) (cond n (name .means q) Unreadable)
+        go true e true i u j n k = refl
+        go true e false i true j true k = absurd (no-name e k i)
+        go true e false i true j false k = refl
+        go true e false i false j n k = absurd (true≢false (sym j))
+        go false e t i u j n k = refl

@@ -11,7 +11,7 @@ ghost use mathlib.Core.Path.{_≡_};
 ghost use Rattle.asm.specs.Operands.{factored, paired, bare, offset, register, number, label, special, name, operandOf};
 ghost use Rattle.asm_operands.specs.Tried.{tried, anchorOf, secondOf};
 
-// What trying a shape finds: the piece has it and is this (unreadable where its number is out of range, and no further shape is tried), or it has another.
+// What trying a shape finds: the piece has it and is this (unreadable where its number is out of range, and no further shape is tried), or it does not have it.
 pub enum Tried {
     Fits(OperandRead),
     Other,
@@ -194,7 +194,7 @@ fn try_label(piece: &[u8], start: usize) -> Tried
 }
 
 // `pc` or `psp`
-// OlaSpecialRegister::from_str(s), of core/src/vm/hardware.rs: "pc" or "psp"
+// OlaSpecialRegister::from_str(s)
 fn try_special_reg(piece: &[u8]) -> Tried
     ensures { λ r. ⌜ r ≡ tried special (record { start = 0; text = now (piece .entry) }) ⌝ }
 {
