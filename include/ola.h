@@ -32,7 +32,7 @@ extern "C" {
 
 /* The version of this header, and that of the library. A caller compares the two before any other call: structs come back by value, so a header of another
    version over the library could corrupt the caller's stack. It is raised whenever a function is added, or a struct, a signature or an answer changes. */
-#define OLA_VERSION 5
+#define OLA_VERSION 6
 uint64_t ola_version(void);
 
 /* The stack of ola_assemble, which has a label table of its own there; of ola_assemble_parts and ola_meter_build, which chain the table's names there, to

@@ -1,4 +1,4 @@
--- Assembling: what it answers, refusals 1 to 13 in their order, and what it leaves in every lent buffer.
+-- Assembling: what it answers, refusals 1 to 13 and 25 in their order, and what it leaves in every lent buffer.
 use Prim.Native.Nat.{ℕ}
 use mathlib.Core.List.{List}
 use mathlib.Core.Bool.{Bool, _||_}
@@ -13,18 +13,19 @@ use Rattle.program.specs.Words.{programWords}
 use Rattle.program.specs.declared.BinaryInstruction.{BinaryInstruction}
 use Rattle.encoder.specs.Canonical.{canonicalProgram, firstMisplaced}
 use Rattle.encoder.specs.declared.AssembleRefusal.{AssembleRefusal}
-use Rattle.encoder.specs.declared.AssembleRefusal.the-variants.{Relocate, NameUnknown, MemoryOperand, NumberMisplaced, RoomTooShort}
+use Rattle.encoder.specs.declared.AssembleRefusal.the-variants.{Relocate, NameUnknown, MemoryOperand, NumberMisplaced, RoomTooShort, BracketMisplaced}
 use Rattle.encoder.specs.declared.Totals.{Totals}
 use Rattle.encoder.specs.declared.Assembly.{Assembly}
 use Rattle.encoder.specs.declared.Assembly.the-variants.{Refused, Assembled}
 
--- 01's number of a refusal
+-- the number of a refusal: 01's, and 02's for 25
 abbrev pub assembleNumber : AssembleRefusal → ℕ
 assembleNumber (Relocate refusal) = relocateNumber refusal
 assembleNumber (NameUnknown index) = 10
 assembleNumber (MemoryOperand index) = 11
 assembleNumber (NumberMisplaced index) = 12
 assembleNumber RoomTooShort = 13
+assembleNumber (BracketMisplaced index) = 25
 
 -- and its detail
 abbrev pub assembleDetail : AssembleRefusal → ℕ
@@ -33,6 +34,7 @@ assembleDetail (NameUnknown index) = index .0
 assembleDetail (MemoryOperand index) = index .0
 assembleDetail (NumberMisplaced index) = index .0
 assembleDetail RoomTooShort = 0
+assembleDetail (BracketMisplaced index) = index .0
 
 -- an answer by its number, detail and counts
 abbrev pub numbered : Assembly → Answer Totals
@@ -52,7 +54,7 @@ pub record Accepted : Type 0 where
   pub words : List ℕ
   pub hosts : List ℕ
 
--- refusals 8 to 13, which leave the table filled: 13 "fewer word entries than emitted words, or fewer host entries than listed prophets"
+-- refusals 8 to 13 and 25, which leave the table filled: 13 "fewer word entries than emitted words, or fewer host entries than listed prophets"
 unfoldable pub encodedRows : List ℕ → List AsmRow → List ℕ → Room → Answer Accepted
 encodedRows s rows prophets room = do
   hosts ← hostsOf s rows prophets

@@ -1,9 +1,9 @@
 -- "The canonical program of an accepted source is its instruction rows in sorted order, each made such an instruction".
 use Prim.Native.Nat.{ℕ, suc}
 use mathlib.Core.List.{List, [], _∷_}
-use mathlib.Core.Bool.{Bool, _||_, cond}
+use mathlib.Core.Bool.{Bool, true, false, _||_, cond}
 use mathlib.Core.Option.{Option, none, some}
-use Rattle.text.specs.Answer.{Answer, ok, refused, _>>=_}
+use Rattle.text.specs.Answer.{Answer, ok, refused, _>>=_, _>>_, refuseAt}
 use Rattle.vm_opcodes.specs.Operations.{rowPlaces}
 use Rattle.vm_opcodes.specs.declared.OlaOpcode.{OlaOpcode}
 use Rattle.vm_opcodes.specs.declared.RowPlaces.{RowPlaces}
@@ -39,8 +39,8 @@ abbrev pub lookedUp : Names → ℕ → Option LabelRow → Answer OlaOperand
 lookedUp names k none = refused 10 k
 lookedUp names k (some l) = ok (aNumber (addressOf (names .instructions) (l .marks)))
 
--- a place of any operation but mload and mstore: "pc, psp and brackets outside mload and mstore become empty; Label operands look only
--- at `.LBL` rows, names only at call rows"
+-- a place of any operation but mload and mstore: "pc, psp ... become empty; Label operands look only at `.LBL` rows, names only at call rows".
+-- Brackets never come here: `general` refuses them first
 abbrev pub plain : Names → ℕ → OlaAsmOperand → Answer OlaOperand
 plain names k Empty = ok NoContent
 plain names k (ImmediateOperand v) = ok (ANumber v)
@@ -51,8 +51,25 @@ plain names k (SpecialReg t) = ok NoContent
 plain names k (Label start n) = lookedUp names k (holderOf names jmpKind start n)
 plain names k (Identifier start n) = lookedUp names k (holderOf names callKind start n)
 
+abbrev pub isBracketed : OlaAsmOperand → Bool
+isBracketed Empty = false
+isBracketed (ImmediateOperand v) = false
+isBracketed (RegisterOperand r) = false
+isBracketed (RegisterWithOffset r v) = true
+isBracketed (RegisterWithFactoredRegOffset r t v) = true
+isBracketed (SpecialReg t) = false
+isBracketed (Label start n) = false
+isBracketed (Identifier start n) = false
+
+-- an operand in brackets in any place of a row
+abbrev pub hasBracket : OlaAsmInstruction → Bool
+hasBracket i = isBracketed (i .op0) || isBracketed (i .op1) || isBracketed (i .dst)
+
+-- every row but those of mload and mstore; 25 "for a bracketed operand outside mload and mstore", "in the walk of 10 and 11, before either at
+-- the same instruction"
 unfoldable pub general : Names → ℕ → OlaAsmInstruction → Answer BinaryInstruction
 general names k i = do
+  refuseAt (cond (hasBracket i) (some k) none) 25
   op0 ← plain names k (i .op0)
   op1 ← plain names k (i .op1)
   dst ← plain names k (i .dst)
@@ -98,7 +115,7 @@ canonicalBy Bare names k i = general names k i
 abbrev pub canonicalOf : Names → ℕ → OlaAsmInstruction → Answer BinaryInstruction
 canonicalOf names k i = canonicalBy (rowPlaces (i .opcode)) names k i
 
--- 10 or 11, "whichever instruction comes first"
+-- 10, 11 or 25, "whichever instruction comes first"
 unfoldable pub canonicalFrom : Names → ℕ → List OlaAsmInstruction → Answer (List BinaryInstruction)
 canonicalFrom names k [] = ok []
 canonicalFrom names k (i ∷ is) = canonicalOf names k i >>= λ b. canonicalFrom names (suc k) is >>= λ bs. ok (b ∷ bs)

@@ -14,6 +14,8 @@ pub enum AssembleRefusal {
     NumberMisplaced(RowCount),
     // 13: fewer word entries than emitted words, or fewer host entries than listed prophets.
     RoomTooShort,
+    // 25: a bracketed operand outside mload and mstore, with the instruction's index in sorted order.
+    BracketMisplaced(RowCount),
 }
 
 // What assembling wrote: the table's entries, the words, the hosts, and how many prophets are kept.

@@ -6,12 +6,13 @@ use Rattle.program.specs.Words.{wordsOf}
 use Rattle.relocate.specs.Columns.{LookUp}
 use Rattle.encoder_canonical.specs.Held.{heldCanonical}
 use Rattle.encoder_canonical.specs.declared.Canonical.{Canonical}
-use Rattle.encoder_canonical.specs.declared.Canonical.the-variants.{Is as Made, Unknown, Misused}
+use Rattle.encoder_canonical.specs.declared.Canonical.the-variants.{Is as Made, Unknown, Misused, Bracketed}
 
 abbrev pub wordsIf : Canonical → List ℕ
 wordsIf (Made b) = wordsOf b
 wordsIf Unknown = []
 wordsIf Misused = []
+wordsIf Bracketed = []
 
 -- the words of the rows, in order
 unfoldable pub heldWords : List ℕ → LookUp → List OlaAsmInstruction → List ℕ

@@ -84,6 +84,7 @@ fn write_words(
             }
             CanonicalLine::Unknown => {}
             CanonicalLine::Misused => {}
+            CanonicalLine::Bracketed => {}
         }
     }
 }

@@ -1,6 +1,7 @@
 -- The canonical instruction of a row, its names looked up in the label table: HeldLaws says that with the table of sorted rows this is `canonicalOf`.
 use Prim.Native.Nat.{ℕ, suc}
 use mathlib.Core.List.{List, [], _∷_}
+use mathlib.Core.Bool.{cond}
 use Rattle.text.specs.Answer.{Answer, ok, refused, _>>=_}
 use Rattle.vm_opcodes.specs.Operations.{rowPlaces}
 use Rattle.vm_opcodes.specs.declared.OlaOpcode.{OlaOpcode}
@@ -18,10 +19,11 @@ use Rattle.relocate.specs.declared.AddressFound.{AddressFound}
 use Rattle.relocate.specs.declared.AddressFound.the-variants.{At, Nothing}
 use Rattle.program.specs.Instructions.{made, aNumber}
 use Rattle.program.specs.declared.BinaryInstruction.{BinaryInstruction}
+use Rattle.encoder.specs.Canonical.{hasBracket}
 use Rattle.encoder_canonical.specs.declared.Resolved.{Resolved}
 use Rattle.encoder_canonical.specs.declared.Resolved.the-variants.{Is, Unknown}
 use Rattle.encoder_canonical.specs.declared.Canonical.{Canonical}
-use Rattle.encoder_canonical.specs.declared.Canonical.the-variants.{Is as Made, Unknown as NameUnknown, Misused}
+use Rattle.encoder_canonical.specs.declared.Canonical.the-variants.{Is as Made, Unknown as NameUnknown, Misused, Bracketed}
 
 -- ---- one place
 
@@ -30,8 +32,8 @@ abbrev pub heldNumber : AddressFound → Resolved
 heldNumber (At a) = Is (aNumber (a .0))
 heldNumber Nothing = Unknown
 
--- a place of any operation but mload and mstore: "pc, psp and brackets outside mload and mstore become empty; Label operands look only
--- at `.LBL` rows, names only at call rows"
+-- a place of any operation but mload and mstore: "pc, psp ... become empty; Label operands look only at `.LBL` rows, names only at call rows".
+-- Brackets never come here: `heldGeneral` refuses them first
 abbrev pub heldPlain : List ℕ → LookUp → OlaAsmOperand → Resolved
 heldPlain s look Empty = Is NoContent
 heldPlain s look (ImmediateOperand v) = Is (ANumber v)
@@ -51,8 +53,9 @@ together o (Is op0) (Is op1) Unknown = NameUnknown
 together o (Is op0) Unknown dst = NameUnknown
 together o Unknown op1 dst = NameUnknown
 
+-- brackets are asked for before any name is looked up
 unfoldable pub heldGeneral : List ℕ → LookUp → OlaAsmInstruction → Canonical
-heldGeneral s look i = together (i .opcode) (heldPlain s look (i .op0)) (heldPlain s look (i .op1)) (heldPlain s look (i .dst))
+heldGeneral s look i = cond (hasBracket i) Bracketed (together (i .opcode) (heldPlain s look (i .op0)) (heldPlain s look (i .op1)) (heldPlain s look (i .dst)))
 
 -- "For mload and mstore op0 is the anchor, op1 the offset number or register with factor, dst the value register"
 abbrev pub heldAnchored : OlaOpcode → OlaAsmOperand → OlaOperand → Canonical
@@ -92,13 +95,14 @@ heldCanonical s look i = heldBy (rowPlaces (i .opcode)) s look i
 
 -- ---- the rows of a source
 
--- 10 or 11, at instruction k
+-- 10, 11 or 25, at instruction k
 abbrev pub canonicalNumbered : ℕ → Canonical → Answer BinaryInstruction
 canonicalNumbered k (Made b) = ok b
 canonicalNumbered k NameUnknown = refused 10 k
 canonicalNumbered k Misused = refused 11 k
+canonicalNumbered k Bracketed = refused 25 k
 
--- 10 or 11, "whichever instruction comes first", where k instructions stand ahead
+-- 10, 11 or 25, "whichever instruction comes first", where k instructions stand ahead
 unfoldable pub heldProgram : List ℕ → LookUp → ℕ → List OlaAsmInstruction → Answer (List BinaryInstruction)
 heldProgram s look k [] = ok []
 heldProgram s look k (i ∷ is) = canonicalNumbered k (heldCanonical s look i) >>= λ b. heldProgram s look (suc k) is >>= λ bs. ok (b ∷ bs)

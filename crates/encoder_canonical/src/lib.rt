@@ -12,6 +12,7 @@ ghost use mathlib.Core.Path.{_≡_};
 ghost use Rattle.asm.specs.Parts.{nameAt};
 ghost use Rattle.relocate.specs.Columns.{entriesOf};
 ghost use Rattle.relocate_chains.specs.Chains.{chainedAddress};
+ghost use Rattle.encoder.specs.Canonical.{isBracketed, hasBracket};
 ghost use Rattle.encoder_canonical.specs.Held.{heldNumber, heldPlain, heldGeneral, heldAnchored, heldMemory, heldCanonical};
 
 // What a place of a row becomes, or that no mapped row holds the name in it.
@@ -27,6 +28,8 @@ pub enum Canonical {
     Unknown,
     // 11: an mload or mstore whose value is no plain register or whose memory operand is not bracketed.
     Misused,
+    // 25: a bracketed operand outside mload and mstore.
+    Bracketed,
 }
 
 // The number of the row that holds the name that stands at a place of the source.
@@ -118,7 +121,43 @@ fn plain(
     }
 }
 
-// Any operation but mload and mstore: each place by itself.
+// Whether an operand stands in brackets.
+fn is_bracketed(operand: OlaAsmOperand) -> bool
+    ensures { λ r. ⌜ r ≡ isBracketed operand ⌝ }
+{
+    match operand {
+        OlaAsmOperand::Empty => false,
+        OlaAsmOperand::ImmediateOperand { value } => false,
+        OlaAsmOperand::RegisterOperand { register } => false,
+        OlaAsmOperand::RegisterWithOffset { register, offset } => true,
+        OlaAsmOperand::RegisterWithFactoredRegOffset {
+            register,
+            offset_register,
+            factor,
+        } => true,
+        OlaAsmOperand::SpecialReg { special_reg } => false,
+        OlaAsmOperand::Label { start, length } => false,
+        OlaAsmOperand::Identifier { start, length } => false,
+    }
+}
+
+// Whether one of a row's operands does.
+fn has_bracket(instruction: OlaAsmInstruction) -> bool
+    ensures { λ r. ⌜ r ≡ hasBracket instruction ⌝ }
+{
+    let op0 = instruction.op0;
+    if is_bracketed(op0) {
+        return true;
+    }
+    let op1 = instruction.op1;
+    if is_bracketed(op1) {
+        return true;
+    }
+    let dst = instruction.dst;
+    is_bracketed(dst)
+}
+
+// Any operation but mload and mstore: no brackets, then each place by itself.
 fn general(
     source: &[u8],
     kinds: &[u8],
@@ -131,6 +170,9 @@ fn general(
 ) -> Canonical
     ensures { λ r. ⌜ r ≡ heldGeneral (now (source .entry)) (chainedAddress (now (source .entry)) (entriesOf (now (kinds .entry)) (now (mapped .entry)) (now (starts .entry)) (now (lengths .entry)) (now (addresses .entry))) (now (chains .entry))) instruction ⌝ }
 {
+    if has_bracket(instruction) {
+        return Canonical::Bracketed;
+    }
     let a = instruction.op0;
     let Resolved::Is(op0) = plain(source, kinds, mapped, starts, lengths, addresses, chains, a)
     else {

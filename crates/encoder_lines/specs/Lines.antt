@@ -9,9 +9,9 @@ use Rattle.relocate.specs.Layout.{sortedRowAt}
 use Rattle.relocate.specs.Columns.{LookUp}
 use Rattle.encoder_canonical.specs.Held.{heldCanonical}
 use Rattle.encoder_canonical.specs.declared.Canonical.{Canonical}
-use Rattle.encoder_canonical.specs.declared.Canonical.the-variants.{Is as Made, Unknown as NameUnknown, Misused}
+use Rattle.encoder_canonical.specs.declared.Canonical.the-variants.{Is as Made, Unknown as NameUnknown, Misused, Bracketed}
 use Rattle.encoder_lines.specs.declared.CanonicalLine.{CanonicalLine}
-use Rattle.encoder_lines.specs.declared.CanonicalLine.the-variants.{Skip, Is as MadeLine, Unknown as UnknownLine, Misused as MisusedLine}
+use Rattle.encoder_lines.specs.declared.CanonicalLine.the-variants.{Skip, Is as MadeLine, Unknown as UnknownLine, Misused as MisusedLine, Bracketed as BracketedLine}
 use Rattle.encoder_lines.specs.declared.CanonicalAt.{CanonicalAt}
 
 -- what an instruction row becomes, as the answer for its line
@@ -19,6 +19,7 @@ abbrev pub ofCanonical : Canonical → CanonicalLine
 ofCanonical (Made b) = MadeLine b
 ofCanonical NameUnknown = UnknownLine
 ofCanonical Misused = MisusedLine
+ofCanonical Bracketed = BracketedLine
 
 abbrev pub canonicalRow : List ℕ → LookUp → AsmRow → CanonicalLine
 canonicalRow s look (Instruction i) = ofCanonical (heldCanonical s look i)

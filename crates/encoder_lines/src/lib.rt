@@ -15,6 +15,7 @@ pub enum CanonicalLine {
     Is(BinaryInstruction),
     Unknown,
     Misused,
+    Bracketed,
 }
 
 // What was found at a line, and where the line after it starts.
@@ -31,6 +32,7 @@ fn of_canonical(found: Canonical) -> CanonicalLine
         Canonical::Is(instruction) => CanonicalLine::Is(instruction),
         Canonical::Unknown => CanonicalLine::Unknown,
         Canonical::Misused => CanonicalLine::Misused,
+        Canonical::Bracketed => CanonicalLine::Bracketed,
     }
 }
 

@@ -49,6 +49,7 @@ pub fn refusal_number(refusal: AssembleRefusal) -> u64
         AssembleRefusal::MemoryOperand(index) => 11,
         AssembleRefusal::NumberMisplaced(index) => 12,
         AssembleRefusal::RoomTooShort => 13,
+        AssembleRefusal::BracketMisplaced(index) => 25,
     }
 }
 
@@ -62,5 +63,6 @@ pub fn refusal_detail(refusal: AssembleRefusal) -> u64
         AssembleRefusal::MemoryOperand(index) => index.0 as u64,
         AssembleRefusal::NumberMisplaced(index) => index.0 as u64,
         AssembleRefusal::RoomTooShort => 0,
+        AssembleRefusal::BracketMisplaced(index) => index.0 as u64,
     }
 }

@@ -1,4 +1,4 @@
--- Refusals 10 to 12 over the instruction rows of a source, each name looked up.
+-- Refusals 10 to 12 and 25 over the instruction rows of a source, each name looked up.
 use Prim.Native.Nat.{ℕ}
 use mathlib.Core.List.{List}
 use mathlib.Core.Bool.{Bool, _||_, cond}
@@ -21,7 +21,7 @@ abbrev pub resolutionNumbered : Resolution → Answer (Unit {0})
 resolutionNumbered Passed = ok tt
 resolutionNumbered (Refused f) = refused (assembleNumber f) (assembleDetail f)
 
--- 10 and 11, "whichever instruction comes first"; then 12, "the first over all instructions"
+-- 10, 11 and 25, "whichever instruction comes first"; then 12, "the first over all instructions"
 unfoldable pub heldPassed : List ℕ → LookUp → List OlaAsmInstruction → Answer (Unit {0})
 heldPassed s look is = heldProgram s look 0 is >>= λ bs. refuseAt (firstMisplaced 0 bs) 12
 

@@ -1,4 +1,4 @@
-// Refusals 10 to 12: one walk over the canonical instructions in sorted order, by the label table's five columns and its chains.
+// Refusals 10 to 12 and 25: one walk over the canonical instructions in sorted order, by the label table's five columns and its chains.
 use asm::PlaceFound;
 use asm::RowCount;
 use encoder::AssembleRefusal;
@@ -14,7 +14,7 @@ ghost use Rattle.relocate.specs.Columns.{entriesOf};
 ghost use Rattle.relocate_chains.specs.Chains.{chainedAddress};
 ghost use Rattle.encoder_walks.specs.Walks.{resolutionNumbered, heldPassed, isNumberAside, asideNext, placeOption};
 
-// Whether refusals 10 to 12 let a source pass.
+// Whether refusals 10 to 12 and 25 let a source pass.
 pub enum Resolution {
     Passed,
     Refused(AssembleRefusal),
@@ -62,7 +62,7 @@ fn all_placed(first: PlaceFound) -> Resolution
     }
 }
 
-// Refusals 10 to 12 over a walk, where main's scope lies within the source.
+// Refusals 10 to 12 and 25 over a walk, where main's scope lies within the source.
 fn resolve_within(
     source: &[u8],
     kinds: &[u8],
@@ -107,12 +107,15 @@ fn resolve_within(
             CanonicalLine::Misused => {
                 return Resolution::Refused(AssembleRefusal::MemoryOperand(RowCount::new(index)));
             }
+            CanonicalLine::Bracketed => {
+                return Resolution::Refused(AssembleRefusal::BracketMisplaced(RowCount::new(index)));
+            }
         }
     }
     all_placed(aside)
 }
 
-// Refusals 10 and 11, whichever instruction comes first, and then 12, where main's scope runs from start to end.
+// Refusals 10, 11 and 25, whichever instruction comes first, and then 12, where main's scope runs from start to end.
 pub fn resolve(
     source: &[u8],
     kinds: &[u8],

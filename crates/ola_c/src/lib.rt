@@ -31,7 +31,7 @@ ghost use Rattle.ola_steps.specs.Steps.{openedOf};
 ghost use Rattle.ola_c.specs.Exports.{version, lineStep, offsetStep, encodingNamed, listed, listedText};
 
 // The version of this interface: that of include/ola.h. It is raised whenever a function is added, or a struct, a signature or an answer changes.
-pub const OLA_VERSION: u64 = 5;
+pub const OLA_VERSION: u64 = 6;
 
 // The version of the library, which a caller compares with its header's.
 // Promises: none; its contract is its whole outcome.

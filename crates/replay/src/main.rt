@@ -144,7 +144,7 @@ fn run_lines(file: &[u8]) -> Tally {
 // Prints how many cases of each refusal agree.
 fn print_refusals(counts: [u64; 100]) {
     let mut i: usize = 1;
-    while i < 25 {
+    while i < 26 {
         if counts[i] != 0 {
             print_count(b"\nrefusal ", i as u64);
             print_count(b": ", counts[i]);

@@ -8,7 +8,7 @@ abbrev Inv-loop : tie.InvT-loop
 Inv-loop counts i₀ t4 t5 t6 i = Unit {0}
 
 abbrev μ-loop : tie.MeasureT-loop
-μ-loop counts i₀ t4 t5 t6 i = 25 - i
+μ-loop counts i₀ t4 t5 t6 i = 26 - i
 
 loop-holds : tie.Need-loop-holds Inv-loop μ-loop
 loop-holds c = search needs
