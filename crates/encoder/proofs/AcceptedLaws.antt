@@ -146,7 +146,7 @@ form-anchored o h (by-offset a d v) = offset o a d v h
 form-anchored o h (by-factor a t d v) = factored o a t d v h
 
 form-of : (names : Names) (k : ℕ) (i : OlaAsmInstruction) (b : BinaryInstruction) → Origin names k i b → WellPlaced b → CanonicalForm b
-form-of names k i b (ordinary m r) w =
+form-of names k i b (ordinary m z r) w =
     form-plain (b .opcode) (sym (ap isMemory (r .opcode)) ∙ m)
     (no-number-aside (plain-content names k (i .op0) (b .op0) (r .op0)) (w .op0))
     (plain-content names k (i .op1) (b .op1) (r .op1))
@@ -187,7 +187,7 @@ module _ (names : Names) (addresses : (n : ℕ) → addressOf (names .instructio
   anchored-below o x y b (by-factor a t d v) h = record { op0 = no-number; op1 = below h; dst = no-number }
 
   origin-below : (k : ℕ) (i : OlaAsmInstruction) (b : BinaryInstruction) → Origin names k i b → OperandsBelow i → InOrder b
-  origin-below k i b (ordinary m r) h = record {
+  origin-below k i b (ordinary m z r) h = record {
     op0 = plain-below k (i .op0) (b .op0) (r .op0) (h .op0);
     op1 = plain-below k (i .op1) (b .op1) (r .op1) (h .op1);
     dst = plain-below k (i .dst) (b .dst) (r .dst) (h .dst);

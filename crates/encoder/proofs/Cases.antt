@@ -1,5 +1,5 @@
--- Inputs that separate likely misreadings of resolution, canonical instructions, refusals 10 to 13 and what is left in the buffers, by
--- computation. Expected values: documents 01 and 02 (Points 2 and 4) and READINGS 2, 3 and 9 to 12.
+-- Inputs that separate likely misreadings of resolution, canonical instructions, refusals 10 to 13 and 25 and what is left in the buffers, by
+-- computation. Expected values: documents 01 and 02 (Points 2, 4 and 6) and READINGS 2, 3 and 9 to 12.
 use Prim.Native.Nat.{ℕ}
 use mathlib.Core.Path.{_≡_, refl}
 use mathlib.Core.List.{List, [], _∷_, _++_, map}
@@ -90,10 +90,31 @@ wordCases =
     ∷ (bytes "main:\nend\nmstore r1 r2", refused 11 1)
     -- 10 at a later instruction before 12 at an earlier one
     ∷ (bytes "main:\nmov 5 r1\ncall g", refused 10 1)
-    -- READING 12: pc, psp and brackets outside mload and mstore become empty
-    ∷ (bytes "main:\nmov r1 [r2]", ok (0x0000000208000000 ∷ []))
-    ∷ (bytes "main:\nmov [r1] pc", ok (0x0000000008000000 ∷ []))
-    ∷ (bytes "main:\nadd r1 [r2,r3] psp", ok (0x0000000280000000 ∷ []))
+    -- READING 12: pc and psp become empty
+    ∷ (bytes "main:\nmov psp pc", ok (0x0000000008000000 ∷ []))
+    ∷ (bytes "main:\nadd r1 pc psp", ok (0x0000000280000000 ∷ []))
+    -- 02, Point 6: 25 "for a bracketed operand outside mload and mstore", in any place
+    ∷ (bytes "main:\nmov r1 [r2]", refused 25 0)
+    ∷ (bytes "main:\nmov [r1] r2", refused 25 0)
+    ∷ (bytes "main:\nadd r1 [r2,r3] psp", refused 25 0)
+    ∷ (bytes "main:\njmp [r2,5]", refused 25 0)
+    ∷ (bytes "main:\njmp [r2,0x5]", refused 25 0)
+    -- "before either at the same instruction"
+    ∷ (bytes "main:\nadd r1 g [r2]", refused 25 0)
+    ∷ (bytes "main:\nadd [r1] g r2", refused 25 0)
+    -- "in the walk of 10 and 11": whichever instruction comes first
+    ∷ (bytes "main:\njmp g\nmov r1 [r2]", refused 10 0)
+    ∷ (bytes "main:\nmov r1 [r2]\njmp g", refused 25 0)
+    ∷ (bytes "main:\nmload r1 r2\nmov r1 [r2]", refused 11 0)
+    ∷ (bytes "main:\nmov r1 [r2]\nmload r1 r2", refused 25 0)
+    -- so before 12, and by the index in sorted order
+    ∷ (bytes "main:\nmov 5 r1\nmov r1 [r2]", refused 25 1)
+    ∷ (bytes "main:\nadd [r1] 5 6", refused 25 0)
+    ∷ (bytes "f:\nmov r1 [r2]\nmain:\nend", refused 25 1)
+    -- mload and mstore have 11; what is no shape has 3
+    ∷ (bytes "main:\nmload [r1] [r2]", refused 11 0)
+    ∷ (bytes "main:\nmov r1 [r2", refused 3 1)
+    ∷ (bytes "main:\njmp [r2,0x]", refused 3 1)
     ∷ (bytes "main:\nmstore [r2,-1] r1", ok (0x4040000200200000 ∷ 18446744069414584320 ∷ []))
     ∷ (bytes "main:\nmstore [r2,r3,7] r1", ok (0x0040200200200000 ∷ 7 ∷ []))
     ∷ (bytes "main:\ncall f.1", refused 3 1)
@@ -115,6 +136,10 @@ roomCases =
     ∷ (bytes "main:\njmp g", bytes "x", room 1 0 0, refused 8 0)
     ∷ (bytes "main:\njmp g", [], room 1 0 0, refused 10 0)
     ∷ (bytes "main:\nmov 5 r1", [], room 1 0 0, refused 12 0)
+    ∷ (bytes "main:\nmov r1 [r2]", [], room 1 0 0, refused 25 0)
+    ∷ (bytes "main:\nmov r1 [r2]", bytes "x", room 1 0 0, refused 8 0)
+    ∷ (bytes "main:\nmov r1 [r2]", bytes "label\nx", room 1 0 0, refused 9 0)
+    ∷ (bytes "main:\nmov r1 [r2]", [], room 0 0 0, refused 7 0)
     ∷ (bytes "main:", [], room 1 0 0, totals 1 0 0 0)
     ∷ []
 
@@ -131,6 +156,7 @@ tableCases =
     (bytes "main:\nend", old ∷ old ∷ [], mainEntry ∷ old ∷ [])
     -- refusals after 7 leave it filled, those up to 7 untouched
     ∷ (bytes "main:\njmp g", old ∷ old ∷ [], mainEntry ∷ old ∷ [])
+    ∷ (bytes "main:\nmov r1 [r2]", old ∷ old ∷ [], mainEntry ∷ old ∷ [])
     ∷ (bytes "main:\nfoo", old ∷ [], old ∷ [])
     ∷ (bytes "main:\nf:\nend", old ∷ [], old ∷ [])
     ∷ []
@@ -142,6 +168,7 @@ bufferCases =
     ∷ (bytes "main:\n.PROPHET0_0:\njmp 1", 1, 3, 7 ∷ 8 ∷ 9 ∷ [], 7 ∷ 8 ∷ 9 ∷ [])
     ∷ (bytes "main:\n.PROPHET0_0:\njmp 1", 3, 1, 7 ∷ 8 ∷ 9 ∷ [], 7 ∷ 8 ∷ 9 ∷ [])
     ∷ (bytes "main:\n.PROPHET0_0:\njmp g", 3, 3, 7 ∷ 8 ∷ 9 ∷ [], 7 ∷ 8 ∷ 9 ∷ [])
+    ∷ (bytes "main:\n.PROPHET0_0:\nmov r1 [r2]", 3, 3, 7 ∷ 8 ∷ 9 ∷ [], 7 ∷ 8 ∷ 9 ∷ [])
     ∷ []
 
 abbrev lent : List ℕ

@@ -1,9 +1,10 @@
 -- Where a canonical instruction comes from: each place resolved by itself, or the memory operand and the value of mload and mstore.
 use Prim.Native.Nat.{ℕ}
 use mathlib.Core.Path.{_≡_, refl, ap, _∙_, subst}
-use mathlib.Core.Bool.{false}
+use mathlib.Core.Bool.{Bool, true, false, cond}
+use mathlib.Core.Option.{none, some, Option·some-ne-none}
 use Rattle.text.specs.Answer.{ok, _>>=_}
-use Rattle.text.proofs.AnswerLaws.{not-ok, ok-same, ok-bind}
+use Rattle.text.proofs.AnswerLaws.{not-ok, ok-same, ok-bind, at-passed}
 use Rattle.vm_opcodes.specs.Operations.{operations, rowPlaces}
 use Rattle.vm_opcodes.proofs.Laws.{agree}
 use Rattle.vm_opcodes.specs.declared.OlaOpcode.{OlaOpcode}
@@ -19,7 +20,7 @@ use Rattle.asm.specs.declared.OlaAsmOperand.the-variants.{Empty, ImmediateOpera
 use Rattle.asm.specs.declared.OlaAsmInstruction.{OlaAsmInstruction}
 use Rattle.program.specs.Instructions.{made, isMemory}
 use Rattle.program.specs.declared.BinaryInstruction.{BinaryInstruction}
-use Rattle.encoder.specs.Canonical.{Names, plain, general, anchored, memory, canonicalBy, canonicalOf}
+use Rattle.encoder.specs.Canonical.{Names, plain, hasBracket, general, anchored, memory, canonicalBy, canonicalOf}
 
 -- ---- mload and mstore by their rows
 
@@ -50,17 +51,23 @@ anchored-counted o x y b (by-factor a t d v) = (refl, refl, refl)
 
 -- the canonical instruction of a row
 pub data Origin (names : Names) (k : ℕ) (i : OlaAsmInstruction) (b : BinaryInstruction) : Type 0 where
-  ordinary : isMemory (i .opcode) ≡ false → Resolved names k i b → Origin names k i b
+  ordinary : isMemory (i .opcode) ≡ false → hasBracket i ≡ false → Resolved names k i b → Origin names k i b
   load : rowPlaces (i .opcode) ≡ DstMemory → Anchored (i .opcode) (i .op1) (i .dst) b → Origin names k i b
   store : rowPlaces (i .opcode) ≡ MemoryDst → Anchored (i .opcode) (i .op0) (i .op1) b → Origin names k i b
 
-general-resolved : (names : Names) (k : ℕ) (i : OlaAsmInstruction) (b : BinaryInstruction) → general names k i ≡ ok b → Resolved names k i b
+not-found : (t : Bool) (k : ℕ) → cond t (some k) none ≡ none → t ≡ false
+not-found true k e = absurd (Option·some-ne-none k e)
+not-found false k e = refl
+
+-- a row that is no mload or mstore and is accepted has no bracket, and each of its places was resolved
+pub general-resolved : (names : Names) (k : ℕ) (i : OlaAsmInstruction) (b : BinaryInstruction) → general names k i ≡ ok b → (hasBracket i ≡ false) × Resolved names k i b
 unfolding general
 general-resolved names k i b e =
-    let x = ok-bind (plain names k (i .op0)) _ b e in
+    let f = at-passed (cond (hasBracket i) (some k) none) 25 _ b e in
+    let x = ok-bind (plain names k (i .op0)) _ b (f .1) in
     let y = ok-bind (plain names k (i .op1)) _ b (x .2) in
     let z = ok-bind (plain names k (i .dst)) _ b (y .2) in
-    subst (Resolved names k i) (ok-same (z .2)) (record { opcode = refl; op0 = x .1; op1 = y .1; dst = z .1 })
+    (not-found (hasBracket i) k (f .0), subst (Resolved names k i) (ok-same (z .2)) (record { opcode = refl; op0 = x .1; op1 = y .1; dst = z .1 }))
 
 anchored-by : (k : ℕ) (o : OlaOpcode) (x : OlaAsmOperand) (d : OlaRegister) (b : BinaryInstruction) → anchored k o x (ARegister d) ≡ ok b
     → Anchored o x (RegisterOperand d) b
@@ -90,11 +97,14 @@ pub canonical-origin : (names : Names) (k : ℕ) (i : OlaAsmInstruction) (b : Bi
 unfolding canonicalBy
 canonical-origin names k i b e = go (rowPlaces (i .opcode)) refl e
   where
+    resolved : (p : RowPlaces) → rowPlaces (i .opcode) ≡ p → isMemoryRow p ≡ false → general names k i ≡ ok b → Origin names k i b
+    resolved p h m e = let r = general-resolved names k i b e in ordinary (memory-rows (i .opcode) ∙ ap isMemoryRow h ∙ m) (r .0) (r .1)
+
     go : (p : RowPlaces) → rowPlaces (i .opcode) ≡ p → canonicalBy p names k i ≡ ok b → Origin names k i b
-    go DstOp0Op1 h e = ordinary (memory-rows (i .opcode) ∙ ap isMemoryRow h) (general-resolved names k i b e)
-    go DstOp1 h e = ordinary (memory-rows (i .opcode) ∙ ap isMemoryRow h) (general-resolved names k i b e)
+    go DstOp0Op1 h e = resolved DstOp0Op1 h refl e
+    go DstOp1 h e = resolved DstOp1 h refl e
     go DstMemory h e = load h (memory-anchored k (i .opcode) (i .op1) (i .dst) b e)
     go MemoryDst h e = store h (memory-anchored k (i .opcode) (i .op0) (i .op1) b e)
-    go Op0Op1 h e = ordinary (memory-rows (i .opcode) ∙ ap isMemoryRow h) (general-resolved names k i b e)
-    go Op1 h e = ordinary (memory-rows (i .opcode) ∙ ap isMemoryRow h) (general-resolved names k i b e)
-    go Bare h e = ordinary (memory-rows (i .opcode) ∙ ap isMemoryRow h) (general-resolved names k i b e)
+    go Op0Op1 h e = resolved Op0Op1 h refl e
+    go Op1 h e = resolved Op1 h refl e
+    go Bare h e = resolved Bare h refl e

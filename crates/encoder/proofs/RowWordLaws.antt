@@ -1,17 +1,16 @@
--- An instruction has as many words as are counted for its row, and a row that is accepted no more than its counted length.
-use Prim.Native.Nat.{ℕ, suc, _+_, _≤_}
+-- An instruction has as many words as are counted for its row.
+use Prim.Native.Nat.{ℕ, suc}
 use mathlib.Core.Path.{_≡_, refl, sym, ap, ap₂, _∙_}
-use mathlib.Core.List.{List, map}
-use mathlib.Core.Bool.{Bool, true, false, _||_, cond}
+use mathlib.Core.List.{List, _∷_, map}
+use mathlib.Core.Bool.{Bool, true, _||_, cond}
 use mathlib.Core.Option.{Option, none}
-use native.Mathlib.Omega.{arith}
 use lib.ListN.{length}
 use Rattle.text.specs.Lists.{total}
 use Rattle.text.specs.Answer.{ok}
 use Rattle.text.proofs.AnswerLaws.{ok-same}
 use Rattle.vm_opcodes.specs.Operations.{rowPlaces}
 use Rattle.vm_operands.specs.declared.OlaOperand.{OlaOperand}
-use Rattle.asm.specs.Rows.{counted, countedLength, instructions}
+use Rattle.asm.specs.Rows.{instructions}
 use Rattle.asm.specs.Survey.{isMemoryRow, takesWord, wordCount}
 use Rattle.asm.specs.declared.OlaAsmOperand.{OlaAsmOperand}
 use Rattle.asm.specs.declared.OlaAsmOperand.the-variants.{Empty, ImmediateOperand, RegisterOperand, RegisterWithOffset, RegisterWithFactoredRegOffset, SpecialReg, Label, Identifier}
@@ -53,38 +52,10 @@ memory-words i b m e =
 
 -- an instruction has as many words as are counted for its row
 row-words : (names : Names) (k : ℕ) (i : OlaAsmInstruction) (b : BinaryInstruction) → Origin names k i b → emittedLength b ≡ wordCount i
-row-words names k i b (ordinary m r) =
+row-words names k i b (ordinary m z r) =
     ap₂ (λ (s t : Bool). cond (s || t) 2 1) (ap isMemory (sym (r .opcode)) ∙ memory-rows (i .opcode)) (plain-words names k (i .op1) (b .op1) (r .op1))
 row-words names k i b (load e a) = memory-words i b (ap isMemoryRow e) (anchored-counted (i .opcode) (i .op1) (i .dst) b a .2)
 row-words names k i b (store e a) = memory-words i b (ap isMemoryRow e) (anchored-counted (i .opcode) (i .op0) (i .op1) b a .2)
-
--- what takes a word counts as one
-takes-counted : (x : OlaAsmOperand) → cond (takesWord x) 2 1 ≤ 1 + counted x
-takes-counted Empty = omega arith
-takes-counted (ImmediateOperand v) = omega arith
-takes-counted (RegisterOperand r) = omega arith
-takes-counted (RegisterWithOffset r v) = omega arith
-takes-counted (RegisterWithFactoredRegOffset r t v) = omega arith
-takes-counted (SpecialReg t) = omega arith
-takes-counted (Label start n) = omega arith
-takes-counted (Identifier start n) = omega arith
-
-pub most-two : (t : Bool) → cond t 2 1 ≤ 2
-most-two true = omega arith
-most-two false = omega arith
-
--- an accepted row's words are at most its counted length
-row-within : (names : Names) (k : ℕ) (i : OlaAsmInstruction) (b : BinaryInstruction) → Origin names k i b → wordCount i ≤ countedLength i
-row-within names k i b (ordinary m r) =
-    let e : isMemoryRow (rowPlaces (i .opcode)) ≡ false = sym (memory-rows (i .opcode)) ∙ m in
-    let t = takes-counted (i .op1) in
-    rw e (omega arith)
-row-within names k i b (load e a) =
-    let f : counted (i .op1) ≡ 1 = anchored-counted (i .opcode) (i .op1) (i .dst) b a .0 in
-    let w = most-two (isMemoryRow (rowPlaces (i .opcode)) || takesWord (i .op1)) in omega arith
-row-within names k i b (store e a) =
-    let f : counted (i .op0) ≡ 1 = anchored-counted (i .opcode) (i .op0) (i .op1) b a .0 in
-    let w = most-two (isMemoryRow (rowPlaces (i .opcode)) || takesWord (i .op1)) in omega arith
 
 -- ---- all rows
 
@@ -93,28 +64,23 @@ pub pairs-length : (names : Names) (k : ℕ) (is : List OlaAsmInstruction) (bs :
 pairs-length names k is bs no-pair = refl
 pairs-length names k is bs (one-pair {is = js} {bs = cs} e p) = ap suc (pairs-length names (suc k) js cs p)
 
-pairs-words : (names : Names) (k : ℕ) (is : List OlaAsmInstruction) (bs : List BinaryInstruction) → Pairs names k is bs
-    → (total (map emittedLength bs) ≡ total (map wordCount is)) × (total (map wordCount is) ≤ total (map countedLength is))
-unfolding total
-pairs-words names k is bs no-pair = (refl, omega arith)
+-- as many words as are counted, one by one
+pairs-words : (names : Names) (k : ℕ) (is : List OlaAsmInstruction) (bs : List BinaryInstruction) → Pairs names k is bs → map emittedLength bs ≡ map wordCount is
+pairs-words names k is bs no-pair = refl
 pairs-words names k is bs (one-pair {i = i} {b = b} {is = js} {bs = cs} e p) =
-    let o = canonical-origin names k i b e in
-    let r = pairs-words names (suc k) js cs p in
-    let w = row-within names k i b o in
-    let x = r .1 in
-    (ap₂ _+_ (row-words names k i b o) (r .0), omega arith)
+    ap₂ _∷_ (row-words names k i b (canonical-origin names k i b e)) (pairs-words names (suc k) js cs p)
 
 module _ (s : List ℕ) (rows : List AsmRow) (is : List BinaryInstruction) (canonical : canonicalProgram s rows ≡ ok is) where
   made-of : Pairs (namesOf s rows) 0 (instructions rows) is
   made-of = canonical-pairs (namesOf s rows) 0 (instructions rows) is canonical
 
-  -- a program that refusals 10 to 12 let pass has as many words as are counted for its rows
-  pub program-words : firstMisplaced 0 is ≡ none → length (programWords is) ≡ total (map wordCount (instructions rows))
-  program-words placed = total-emitted is (canonical-form s rows is canonical placed) ∙ pairs-words (namesOf s rows) 0 (instructions rows) is made-of .0
+  -- each instruction has as many words as are counted for its row
+  pub rows-words : map emittedLength is ≡ map wordCount (instructions rows)
+  rows-words = pairs-words (namesOf s rows) 0 (instructions rows) is made-of
 
-  -- at most their counted length
-  pub words-within-length : total (map wordCount (instructions rows)) ≤ total (map countedLength (instructions rows))
-  words-within-length = pairs-words (namesOf s rows) 0 (instructions rows) is made-of .1
+  -- a program that refusals 10 to 12 and 25 let pass has as many words as are counted for its rows
+  pub program-words : firstMisplaced 0 is ≡ none → length (programWords is) ≡ total (map wordCount (instructions rows))
+  program-words placed = total-emitted is (canonical-form s rows is canonical placed) ∙ ap total rows-words
 
   -- and as many instructions as instruction rows
   pub rows-length : length (instructions rows) ≡ length is

@@ -3,6 +3,8 @@ use Prim.Native.Nat.{ℕ, suc, _+_, _<_, _≤_}
 use mathlib.Core.Path.{_≡_, refl, sym, ap, _∙_}
 use mathlib.Core.List.{List, [], _∷_, _++_}
 use mathlib.Core.Option.{Option, none, some}
+use types.Run.{OneOf, miss}
+use denote.Enum.Declared.{tagOf}
 use native.Mathlib.Omega.{arith}
 use native.Mathlib.Numerals.{add-one}
 use borrow.Author.Needs.{needs}
@@ -20,9 +22,11 @@ use Rattle.program.specs.declared.SecondWord.{SecondWord}
 use Rattle.program.specs.declared.SecondWord.the-variants.{Number, Nothing}
 use Rattle.encoder_canonical.specs.Held.{heldProgram}
 use Rattle.encoder_canonical.specs.declared.Canonical.{Canonical}
-use Rattle.encoder_canonical.specs.declared.Canonical.the-variants.{Is as Made, Unknown, Misused}
+use Rattle.encoder_canonical.specs.declared.Canonical.the-variants.{Is as Made, Unknown, Misused, Bracketed}
 use Rattle.encoder_lines.specs.Lines.{ofCanonical, canonicalAt}
-use Rattle.encoder_lines.specs.declared.CanonicalLine.the-variants.{Skip, Is as MadeLine, Unknown as UnknownLine, Misused as MisusedLine}
+use Rattle.encoder_lines.specs.declared.CanonicalLine.{CanonicalLine}
+use Rattle.encoder_lines.specs.declared.CanonicalLine.the-variants.{Skip, Is as MadeLine, Unknown as UnknownLine, Misused as MisusedLine, Bracketed as BracketedLine}
+use Rattle.encoder_lines.proofs.CanonicalLine.{the-type as lineType}
 use Rattle.encoder_lines.specs.declared.CanonicalAt.{CanonicalAt}
 use Rattle.encoder_walks.proofs.LineLaws.{rowsFrom, rows-start, rows-end, line-skip, line-row, line-laws}
 use Rattle.encoder_walks.proofs.ProgramLaws.{accepted-first}
@@ -93,22 +97,21 @@ module _ (s : List ℕ) (look : LookUp) (start end at : ℕ) (r : CanonicalAt) (
       let w = line-row s look start end at r a b e h c f in
       ap (heldWords s look) (w .rest) ∙ ap (λ (x : Canonical). wordsIf x ++ heldWords s look (rowsFrom s start end (r .next))) (w .held)
 
-  -- a line that is no instruction row has no words
-  words-skip : r .found ≡ Skip → heldWords s look (rowsFrom s start end at) ≡ heldWords s look (rowsFrom s start end (r .next))
-  words-skip f = ap (heldWords s look) (line-skip s look start end at r a b e h f)
+  -- a line that became no instruction has no words
+  words-none : OneOf (0 ∷ 2 ∷ 3 ∷ 4 ∷ []) (tagOf lineType (r .found)) → heldWords s look (rowsFrom s start end at) ≡ heldWords s look (rowsFrom s start end (r .next))
+  words-none k = go (r .found) refl k
+    where
+      go : (l : CanonicalLine) → r .found ≡ l → OneOf (0 ∷ 2 ∷ 3 ∷ 4 ∷ []) (tagOf lineType l) → heldWords s look (rowsFrom s start end at) ≡ heldWords s look (rowsFrom s start end (r .next))
+      go Skip f k = ap (heldWords s look) (line-skip s look start end at r a b e h f)
+      go (MadeLine m) f k = absurd (miss (0 ∷ 2 ∷ 3 ∷ 4 ∷ []) 1 tt k)
+      go UnknownLine f k = words-row Unknown f
+      go MisusedLine f k = words-row Misused f
+      go BracketedLine f k = words-row Bracketed f
 
   module _ (n : ℕ) (new : List ℕ) (k : n + length (heldWords s look (rowsFrom s start end at)) ≤ length new) where
-    -- a line that is no instruction row leaves the room
-    pub room-skip : r .found ≡ Skip → n + length (heldWords s look (rowsFrom s start end (r .next))) ≤ length new
-    room-skip f = let w = ap length (words-skip f) in omega arith
-
-    -- so does a row with an unknown name
-    pub room-unknown : r .found ≡ UnknownLine → n + length (heldWords s look (rowsFrom s start end (r .next))) ≤ length new
-    room-unknown f = let w = ap length (words-row Unknown f) in omega arith
-
-    -- and one with no memory operand
-    pub room-misused : r .found ≡ MisusedLine → n + length (heldWords s look (rowsFrom s start end (r .next))) ≤ length new
-    room-misused f = let w = ap length (words-row Misused f) in omega arith
+    -- it leaves the room
+    pub room-none : OneOf (0 ∷ 2 ∷ 3 ∷ 4 ∷ []) (tagOf lineType (r .found)) → n + length (heldWords s look (rowsFrom s start end (r .next))) ≤ length new
+    room-none f = let w = ap length (words-none f) in omega arith
 
     module _ (m : BinaryInstruction) (f : r .found ≡ MadeLine m) where
       -- an instruction's words and those behind it, counted
@@ -127,17 +130,9 @@ module _ (s : List ℕ) (look : LookUp) (start end at : ℕ) (r : CanonicalAt) (
           omega arith
 
   module _ (n : ℕ) (old new : List ℕ) (t : sets old 0 (heldWords s look (sortedInstructions s start end)) ≡ sets new n (heldWords s look (rowsFrom s start end at))) where
-    -- a line that is no instruction row leaves what is to be written
-    pub write-skip : r .found ≡ Skip → sets old 0 (heldWords s look (sortedInstructions s start end)) ≡ sets new n (heldWords s look (rowsFrom s start end (r .next)))
-    write-skip f = t ∙ ap (sets new n) (words-skip f)
-
-    -- so does a row with an unknown name
-    pub write-unknown : r .found ≡ UnknownLine → sets old 0 (heldWords s look (sortedInstructions s start end)) ≡ sets new n (heldWords s look (rowsFrom s start end (r .next)))
-    write-unknown f = t ∙ ap (sets new n) (words-row Unknown f)
-
-    -- and one with no memory operand
-    pub write-misused : r .found ≡ MisusedLine → sets old 0 (heldWords s look (sortedInstructions s start end)) ≡ sets new n (heldWords s look (rowsFrom s start end (r .next)))
-    write-misused f = t ∙ ap (sets new n) (words-row Misused f)
+    -- and what is to be written
+    pub write-none : OneOf (0 ∷ 2 ∷ 3 ∷ 4 ∷ []) (tagOf lineType (r .found)) → sets old 0 (heldWords s look (sortedInstructions s start end)) ≡ sets new n (heldWords s look (rowsFrom s start end (r .next)))
+    write-none f = t ∙ ap (sets new n) (words-none f)
 
     -- an instruction's words more
     pub write-more : (m : BinaryInstruction) (p : ℕ) (next : List ℕ) → r .found ≡ MadeLine m → p ≡ n + length (wordsOf m) → next ≡ sets new n (wordsOf m)
@@ -168,7 +163,7 @@ module _ (s : List ℕ) (look : LookUp) (start end : ℕ) (a : start ≤ end) (b
 pub length-more : (m : BinaryInstruction) (n : ℕ) (old new next : List ℕ) → next ≡ sets new n (wordsOf m) → length new ≡ length old → length next ≡ length old
 length-more m n old new next i l = ap length i ∙ length-sets new n (wordsOf m) ∙ l
 
-pub ruleset write-laws = (line-laws, write-start, room-start, write-end, room-skip, room-unknown, room-misused, room-made, room-more, write-skip, write-unknown, write-misused, write-more, length-more, needs)
+pub ruleset write-laws = (line-laws, write-start, room-start, write-end, room-none, room-made, room-more, write-none, write-more, length-more, needs)
 
 -- ---- a program whose names are all known
 

@@ -78,13 +78,10 @@ fn write_words(
         let found = line.found;
         at = line.next;
         match found {
-            CanonicalLine::Skip => {}
             CanonicalLine::Is(instruction) => {
                 written = put_words(instruction, written, words);
             }
-            CanonicalLine::Unknown => {}
-            CanonicalLine::Misused => {}
-            CanonicalLine::Bracketed => {}
+            _ => {}
         }
     }
 }
@@ -97,7 +94,7 @@ fn counts(layout: Layout, count: usize, hosts: &[u64]) -> Assembly
     encoder_counts::totals(layout, &hosts[..count])
 }
 
-// Refusals 8 to 13, and else the words and hosts, of a source whose label table is filled and chained.
+// Refusals 8 to 13 and 25, and else the words and hosts, of a source whose label table is filled and chained.
 fn encode_filled(
     source: &[u8],
     prophets: &[u8],

@@ -2,8 +2,9 @@
 use Prim.Native.Nat.{ℕ, suc}
 use mathlib.Core.Path.{_≡_, refl, ap, _∙_}
 use mathlib.Core.List.{List, [], _∷_}
+use mathlib.Core.Bool.{Bool, true, false, cond}
 use mathlib.Core.Option.{Option, none, some}
-use Rattle.text.specs.Answer.{Answer, ok, refused, _>>=_}
+use Rattle.text.specs.Answer.{Answer, ok, refused, _>>=_, _>>_, refuseAt}
 use Rattle.text.proofs.AnswerLaws.{not-ok, ok-same}
 use Rattle.vm_opcodes.specs.Operations.{rowPlaces}
 use Rattle.vm_opcodes.specs.declared.OlaOpcode.{OlaOpcode}
@@ -21,12 +22,12 @@ use Rattle.relocate.specs.Columns.{lookedIn}
 use Rattle.relocate_laws.proofs.ColumnLaws.{foundBy, held-label}
 use Rattle.program.specs.Instructions.{made}
 use Rattle.program.specs.declared.BinaryInstruction.{BinaryInstruction}
-use Rattle.encoder.specs.Canonical.{Names, namesOf, holderOf, lookedUp, plain, general, anchored, memory, canonicalBy, canonicalOf, canonicalFrom}
+use Rattle.encoder.specs.Canonical.{Names, namesOf, holderOf, lookedUp, plain, hasBracket, general, anchored, memory, canonicalBy, canonicalOf, canonicalFrom}
 use Rattle.encoder_canonical.specs.Held.{heldNumber, heldPlain, together, heldGeneral, heldAnchored, heldMemory, heldBy, heldCanonical, canonicalNumbered, heldProgram}
 use Rattle.encoder_canonical.specs.declared.Resolved.{Resolved}
 use Rattle.encoder_canonical.specs.declared.Resolved.the-variants.{Is, Unknown}
 use Rattle.encoder_canonical.specs.declared.Canonical.{Canonical}
-use Rattle.encoder_canonical.specs.declared.Canonical.the-variants.{Is as Made, Unknown as NameUnknown, Misused}
+use Rattle.encoder_canonical.specs.declared.Canonical.the-variants.{Is as Made, Unknown as NameUnknown, Misused, Bracketed}
 
 -- 10, at instruction k
 abbrev resolvedNumbered : ℕ → Resolved → Answer OlaOperand
@@ -38,10 +39,18 @@ pub numbered-made : (k : ℕ) (f : Canonical) (b : BinaryInstruction) → canoni
 numbered-made k (Made c) b e = ap Made (ok-same e)
 numbered-made k NameUnknown b e = absurd (not-ok e)
 numbered-made k Misused b e = absurd (not-ok e)
+numbered-made k Bracketed b e = absurd (not-ok e)
 
 -- three places together
 abbrev inTurn : OlaOpcode → Answer OlaOperand → Answer OlaOperand → Answer OlaOperand → Answer BinaryInstruction
 inTurn o op0 op1 dst = op0 >>= λ a. op1 >>= λ b. dst >>= λ d. ok (made o a b d)
+
+-- brackets answer first
+numbered-bracketed : (k : ℕ) (t : Bool) (c : Canonical) (x : Answer BinaryInstruction) → canonicalNumbered k c ≡ x
+    → canonicalNumbered k (cond t Bracketed c) ≡ (refuseAt (cond t (some k) none) 25 >> x)
+unfolding _>>_ refuseAt
+numbered-bracketed k true c x e = refl
+numbered-bracketed k false c x e = e
 
 -- the first unknown place answers
 numbered-together : (k : ℕ) (o : OlaOpcode) (p q r : Resolved)
@@ -100,8 +109,9 @@ module _ (s : List ℕ) (rows : List AsmRow) where
     numbered-general : (i : OlaAsmInstruction) → canonicalNumbered k (heldGeneral s (lookedIn s (tableOf rows)) i) ≡ general names k i
     unfolding heldGeneral general
     numbered-general i =
-        numbered-together k (i .opcode) (heldPlain s (lookedIn s (tableOf rows)) (i .op0)) (heldPlain s (lookedIn s (tableOf rows)) (i .op1)) (heldPlain s (lookedIn s (tableOf rows)) (i .dst))
-        ∙ rw (numbered-plain (i .op0), numbered-plain (i .op1), numbered-plain (i .dst))
+        numbered-bracketed k (hasBracket i) _ (inTurn (i .opcode) (plain names k (i .op0)) (plain names k (i .op1)) (plain names k (i .dst)))
+        (numbered-together k (i .opcode) (heldPlain s (lookedIn s (tableOf rows)) (i .op0)) (heldPlain s (lookedIn s (tableOf rows)) (i .op1)) (heldPlain s (lookedIn s (tableOf rows)) (i .dst))
+        ∙ rw (numbered-plain (i .op0), numbered-plain (i .op1), numbered-plain (i .dst)))
 
     -- a row by its places
     numbered-by : (p : RowPlaces) (i : OlaAsmInstruction) → canonicalNumbered k (heldBy p s (lookedIn s (tableOf rows)) i) ≡ canonicalBy p names k i
@@ -114,7 +124,7 @@ module _ (s : List ℕ) (rows : List AsmRow) where
     numbered-by Op1 i = numbered-general i
     numbered-by Bare i = numbered-general i
 
-    -- a row by the table of the sorted rows is the row by the sorted rows, refusals 10 and 11 too
+    -- a row by the table of the sorted rows is the row by the sorted rows, refusals 10, 11 and 25 too
     pub held-canonical : (i : OlaAsmInstruction) → canonicalNumbered k (heldCanonical s (lookedIn s (tableOf rows)) i) ≡ canonicalOf names k i
     held-canonical i = numbered-by (rowPlaces (i .opcode)) i
 

@@ -2,6 +2,7 @@
 use Prim.Native.Nat.{ℕ}
 use mathlib.Core.Path.{_≡_, refl, sym, ap, _∙_}
 use mathlib.Core.List.{List, [], _∷_}
+use mathlib.Core.Bool.{Bool, true, false}
 use types.Run.{OneOf, miss}
 use denote.Enum.Declared.{tagOf}
 use borrow.Author.Needs.{needs}
@@ -26,11 +27,44 @@ use Rattle.relocate.specs.declared.AddressFound.the-variants.{At, Nothing}
 use Rattle.relocate_chains.specs.Chains.{chainedAddress}
 use Rattle.program.specs.Instructions.{made}
 use Rattle.program.specs.declared.BinaryInstruction.{BinaryInstruction}
+use Rattle.encoder.specs.Canonical.{isBracketed, hasBracket}
 use Rattle.encoder_canonical.specs.Held.{heldNumber, heldPlain, heldGeneral, heldAnchored, heldMemory, heldBy, heldCanonical}
 use Rattle.encoder_canonical.specs.declared.Resolved.{Resolved}
 use Rattle.encoder_canonical.specs.declared.Resolved.the-variants.{Is, Unknown}
 use Rattle.encoder_canonical.specs.declared.Canonical.{Canonical}
-use Rattle.encoder_canonical.specs.declared.Canonical.the-variants.{Is as Made, Unknown as NameUnknown, Misused}
+use Rattle.encoder_canonical.specs.declared.Canonical.the-variants.{Is as Made, Unknown as NameUnknown, Misused, Bracketed}
+
+-- ---- brackets
+
+-- an operand that a match found bracketed is
+pub told-bracketed : (x y : OlaAsmOperand) → x ≡ y → true ≡ isBracketed y → true ≡ isBracketed x
+told-bracketed x y e f = f ∙ sym (ap isBracketed e)
+
+-- any other is not
+pub unbracketed : (x : OlaAsmOperand) → OneOf (0 ∷ 1 ∷ 2 ∷ 5 ∷ 6 ∷ 7 ∷ []) (tagOf operandType x) → false ≡ isBracketed x
+unbracketed Empty k = refl
+unbracketed (ImmediateOperand v) k = refl
+unbracketed (RegisterOperand r) k = refl
+unbracketed (RegisterWithOffset r v) k = absurd (miss (0 ∷ 1 ∷ 2 ∷ 5 ∷ 6 ∷ 7 ∷ []) 3 tt k)
+unbracketed (RegisterWithFactoredRegOffset r t v) k = absurd (miss (0 ∷ 1 ∷ 2 ∷ 5 ∷ 6 ∷ 7 ∷ []) 4 tt k)
+unbracketed (SpecialReg t) k = refl
+unbracketed (Label start n) k = refl
+unbracketed (Identifier start n) k = refl
+
+module _ (i : OlaAsmInstruction) (t : Bool) (e : t ≡ isBracketed (i .op0)) where
+  pub bracket-op0 : t ≡ true → true ≡ hasBracket i
+  bracket-op0 h = rw (← e, h)
+
+  module _ (f : t ≡ false) (u : Bool) (g : u ≡ isBracketed (i .op1)) where
+    -- none in op0
+    pub bracket-op1 : u ≡ true → true ≡ hasBracket i
+    bracket-op1 h = rw (← e, f, ← g, h)
+
+    -- none in op0 and op1
+    pub bracket-dst : u ≡ false → (v : Bool) → v ≡ isBracketed (i .dst) → v ≡ hasBracket i
+    bracket-dst h v k = k ∙ rw (← e, f, ← g, h)
+
+pub ruleset bracket-laws = (bracket-op0, bracket-op1, bracket-dst, needs)
 
 -- ---- one place
 
@@ -64,30 +98,36 @@ module _ (s : List ℕ) (look : LookUp) where
 
   -- ---- each place by itself
 
-  module _ (i : OlaAsmInstruction) (p : Resolved) (e : p ≡ heldPlain s look (i .op0)) where
-    -- the first unknown answers
-    pub unknown-op0 : p ≡ Unknown → NameUnknown ≡ heldGeneral s look i
+  module _ (i : OlaAsmInstruction) (t : Bool) (z : t ≡ hasBracket i) where
+    -- brackets answer before any place
+    pub brackets-first : t ≡ true → Bracketed ≡ heldGeneral s look i
     unfolding heldGeneral
-    unknown-op0 h = rw (← e, h)
+    brackets-first y = rw (← z, y)
 
-    module _ (a : OlaOperand) (h : p ≡ Is a) (q : Resolved) (f : q ≡ heldPlain s look (i .op1)) where
-      -- the same of op1, where op0 is known
-      pub unknown-op1 : q ≡ Unknown → NameUnknown ≡ heldGeneral s look i
+    module _ (y : t ≡ false) (p : Resolved) (e : p ≡ heldPlain s look (i .op0)) where
+      -- the first unknown answers
+      pub unknown-op0 : p ≡ Unknown → NameUnknown ≡ heldGeneral s look i
       unfolding heldGeneral
-      unknown-op1 k = rw (← e, h, ← f, k)
+      unknown-op0 h = rw (← z, y, ← e, h)
 
-      module _ (b : OlaOperand) (k : q ≡ Is b) (r : Resolved) (g : r ≡ heldPlain s look (i .dst)) where
-        -- the same of dst, where the others are known
-        pub unknown-dst : r ≡ Unknown → NameUnknown ≡ heldGeneral s look i
+      module _ (a : OlaOperand) (h : p ≡ Is a) (q : Resolved) (f : q ≡ heldPlain s look (i .op1)) where
+        -- the same of op1, where op0 is known
+        pub unknown-op1 : q ≡ Unknown → NameUnknown ≡ heldGeneral s look i
         unfolding heldGeneral
-        unknown-dst l = rw (← e, h, ← f, k, ← g, l)
+        unknown-op1 k = rw (← z, y, ← e, h, ← f, k)
 
-        -- an instruction of three contents
-        pub known-places : (d : OlaOperand) → r ≡ Is d → (w : BinaryInstruction) → w ≡ made (i .opcode) a b d → Made w ≡ heldGeneral s look i
-        unfolding heldGeneral
-        known-places d l w m = rw (m, ← e, h, ← f, k, ← g, l)
+        module _ (b : OlaOperand) (k : q ≡ Is b) (r : Resolved) (g : r ≡ heldPlain s look (i .dst)) where
+          -- the same of dst, where the others are known
+          pub unknown-dst : r ≡ Unknown → NameUnknown ≡ heldGeneral s look i
+          unfolding heldGeneral
+          unknown-dst l = rw (← z, y, ← e, h, ← f, k, ← g, l)
 
-  pub ruleset place-laws = (unknown-op0, unknown-op1, unknown-dst, known-places, needs)
+          -- an instruction of three contents
+          pub known-places : (d : OlaOperand) → r ≡ Is d → (w : BinaryInstruction) → w ≡ made (i .opcode) a b d → Made w ≡ heldGeneral s look i
+          unfolding heldGeneral
+          known-places d l w m = rw (m, ← z, y, ← e, h, ← f, k, ← g, l)
+
+  pub ruleset place-laws = (brackets-first, unknown-op0, unknown-op1, unknown-dst, known-places, needs)
 
 -- ---- mload and mstore
 

@@ -126,18 +126,13 @@ fn is_bracketed(operand: OlaAsmOperand) -> bool
     ensures { λ r. ⌜ r ≡ isBracketed operand ⌝ }
 {
     match operand {
-        OlaAsmOperand::Empty => false,
-        OlaAsmOperand::ImmediateOperand { value } => false,
-        OlaAsmOperand::RegisterOperand { register } => false,
         OlaAsmOperand::RegisterWithOffset { register, offset } => true,
         OlaAsmOperand::RegisterWithFactoredRegOffset {
             register,
             offset_register,
             factor,
         } => true,
-        OlaAsmOperand::SpecialReg { special_reg } => false,
-        OlaAsmOperand::Label { start, length } => false,
-        OlaAsmOperand::Identifier { start, length } => false,
+        _ => false,
     }
 }
 

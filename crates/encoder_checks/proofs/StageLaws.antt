@@ -1,4 +1,4 @@
--- Refusals 8 to 13 stage by stage, and that the stages together are document 01's own order over sorted rows.
+-- Refusals 8 to 13 and 25 stage by stage, and that the stages together are the papers' own order over sorted rows.
 use Prim.Native.Nat.{ℕ, _+_, _<_, _≤_}
 use mathlib.Core.Path.{_≡_, refl, sym, ap, subst, _∙_}
 use mathlib.Core.List.{List, [], _∷_, map}
@@ -34,7 +34,7 @@ use Rattle.encoder_checks.specs.Checked.{checkedNumbered, rowsChecked, c
 use Rattle.encoder_checks.specs.declared.Checked.{Checked}
 use Rattle.encoder_checks.specs.declared.Checked.the-variants.{Is, Refused}
 
--- ---- 10 to 13, one law for each way out
+-- ---- 10 to 13 and 25, one law for each way out
 
 module _ (s : List ℕ) (look : LookUp) (l : Layout) (wordroom hostroom hosts : ℕ) (r : Resolution) (e : resolutionNumbered r ≡ heldPassed s look (sortedInstructions s (l .start) (l .end))) where
   pub rows-unresolved : (f : AssembleRefusal) → r ≡ NotResolved f → checkedNumbered (Refused f) ≡ rowsChecked s look l wordroom hostroom hosts

@@ -1,4 +1,4 @@
--- Refusals 8 to 13 by the label table, in their order.
+-- Refusals 8 to 13 and 25 by the label table, in their order.
 use Prim.Native.Nat.{ℕ}
 use mathlib.Core.List.{List}
 use mathlib.Core.Bool.{_||_}
@@ -16,7 +16,7 @@ abbrev pub checkedNumbered : Checked → Answer ℕ
 checkedNumbered (Is n) = ok n
 checkedNumbered (Refused f) = refused (assembleNumber f) (assembleDetail f)
 
--- 10 and 11, 12, 13, where so many prophets are listed
+-- 10, 11 and 25, then 12, then 13, where so many prophets are listed
 unfoldable pub rowsChecked : List ℕ → LookUp → Layout → ℕ → ℕ → ℕ → Answer ℕ
 rowsChecked s look l wordroom hostroom hosts = do
   heldPassed s look (sortedInstructions s (l .start) (l .end))

@@ -1,4 +1,4 @@
-// Refusals 8 to 13 of assembling, each before a word is written: the names, memory operands, numbers and room of assembler/src/encoder.rs.
+// Refusals 8 to 13 and 25 of assembling, each before a word is written: the names, memory operands, brackets, numbers and room of assembler/src/encoder.rs.
 use encoder::AssembleRefusal;
 use encoder_walks::Resolution;
 use relocate::Layout;
@@ -8,13 +8,13 @@ ghost use Rattle.relocate.specs.Columns.{entriesOf};
 ghost use Rattle.relocate_chains.specs.Chains.{chainedAddress};
 ghost use Rattle.encoder_checks.specs.Checked.{checkedNumbered, rowsChecked, checkedOf};
 
-// How many prophets are listed, where refusals 8 to 13 turn nothing away.
+// How many prophets are listed, where refusals 8 to 13 and 25 turn nothing away.
 pub enum Checked {
     Is(usize),
     Refused(AssembleRefusal),
 }
 
-// Refusals 10 to 13 of a source whose label table is filled and whose list names so many prophets.
+// Refusals 10 to 13 and 25 of a source whose label table is filled and whose list names so many prophets.
 fn check_rows(
     source: &[u8],
     kinds: &[u8],
@@ -56,7 +56,7 @@ fn check_rows(
     Checked::Is(hosts)
 }
 
-// Refusals 8 to 13 of a source whose label table is filled.
+// Refusals 8 to 13 and 25 of a source whose label table is filled.
 pub fn check_all(
     source: &[u8],
     prophets: &[u8],

@@ -15,10 +15,10 @@ use Rattle.relocate_laws.proofs.WalkLaws.{sorted-end, sorted-blank, sorted-row,
 use Rattle.relocate.specs.Columns.{LookUp}
 use Rattle.encoder_canonical.specs.Held.{heldCanonical}
 use Rattle.encoder_canonical.specs.declared.Canonical.{Canonical}
-use Rattle.encoder_canonical.specs.declared.Canonical.the-variants.{Is as Made, Unknown as NameUnknown, Misused}
+use Rattle.encoder_canonical.specs.declared.Canonical.the-variants.{Is as Made, Unknown as NameUnknown, Misused, Bracketed}
 use Rattle.encoder_lines.specs.Lines.{ofCanonical, canonicalLine, canonicalAt}
 use Rattle.encoder_lines.specs.declared.CanonicalLine.{CanonicalLine}
-use Rattle.encoder_lines.specs.declared.CanonicalLine.the-variants.{Skip, Is as MadeLine, Unknown as UnknownLine, Misused as MisusedLine}
+use Rattle.encoder_lines.specs.declared.CanonicalLine.the-variants.{Skip, Is as MadeLine, Unknown as UnknownLine, Misused as MisusedLine, Bracketed as BracketedLine}
 use Rattle.encoder_lines.specs.declared.CanonicalAt.{CanonicalAt}
 
 -- the instruction rows of the sorted source from place v on
@@ -55,6 +55,7 @@ taken Skip = NameUnknown
 taken (MadeLine b) = Made b
 taken UnknownLine = NameUnknown
 taken MisusedLine = Misused
+taken BracketedLine = Bracketed
 
 -- that gives back what was told
 taken-of : (c : Canonical) → taken (ofCanonical c) ≡ c
@@ -62,6 +63,7 @@ unfolding taken
 taken-of (Made b) = refl
 taken-of NameUnknown = refl
 taken-of Misused = refl
+taken-of Bracketed = refl
 
 -- what two rows were told as is the same only where they are
 told-same : (c d : Canonical) → ofCanonical c ≡ ofCanonical d → c ≡ d
@@ -72,6 +74,7 @@ told-not-skip : (c : Canonical) → ofCanonical c ≡ Skip → ⊥
 told-not-skip (Made b) e = let z : _≡_ {A = ℕ} 0 1 = cc in omega arith
 told-not-skip NameUnknown e = let z : _≡_ {A = ℕ} 0 1 = cc in omega arith
 told-not-skip Misused e = let z : _≡_ {A = ℕ} 0 1 = cc in omega arith
+told-not-skip Bracketed e = let z : _≡_ {A = ℕ} 0 1 = cc in omega arith
 
 -- an instruction row that became c, and the rows behind it
 pub record HeldRow (s : List ℕ) (look : LookUp) (start end v next : ℕ) (c : Canonical) : Type 0 where

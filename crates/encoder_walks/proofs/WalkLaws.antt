@@ -1,4 +1,4 @@
--- The walk of refusals 10 to 12: what is left at a line makes what the whole source makes.
+-- The walk of refusals 10 to 12 and 25: what is left at a line makes what the whole source makes.
 use Prim.Native.Nat.{ℕ, suc, _+_, _<_, _≤_}
 use mathlib.Core.Path.{_≡_, refl, sym, ap, _∙_}
 use mathlib.Core.List.{List, [], _∷_}
@@ -25,12 +25,12 @@ use Rattle.relocate.specs.Columns.{LookUp}
 use Rattle.program.specs.Instructions.{isNumber}
 use Rattle.program.specs.declared.BinaryInstruction.{BinaryInstruction}
 use Rattle.encoder.specs.Canonical.{firstMisplaced}
-use Rattle.encoder.specs.declared.AssembleRefusal.the-variants.{NameUnknown, MemoryOperand, NumberMisplaced}
+use Rattle.encoder.specs.declared.AssembleRefusal.the-variants.{NameUnknown, MemoryOperand, NumberMisplaced, BracketMisplaced}
 use Rattle.encoder_canonical.specs.Held.{heldCanonical, canonicalNumbered, heldProgram}
 use Rattle.encoder_canonical.specs.declared.Canonical.{Canonical}
-use Rattle.encoder_canonical.specs.declared.Canonical.the-variants.{Is as Made, Unknown, Misused}
+use Rattle.encoder_canonical.specs.declared.Canonical.the-variants.{Is as Made, Unknown, Misused, Bracketed}
 use Rattle.encoder_lines.specs.Lines.{ofCanonical, canonicalAt}
-use Rattle.encoder_lines.specs.declared.CanonicalLine.the-variants.{Skip, Is as MadeLine, Unknown as UnknownLine, Misused as MisusedLine}
+use Rattle.encoder_lines.specs.declared.CanonicalLine.the-variants.{Skip, Is as MadeLine, Unknown as UnknownLine, Misused as MisusedLine, Bracketed as BracketedLine}
 use Rattle.encoder_lines.specs.declared.CanonicalAt.{CanonicalAt}
 use Rattle.encoder_walks.specs.Walks.{resolutionNumbered, heldPassed, isNumberAside, asideNext, placeOption}
 use Rattle.encoder_walks.specs.declared.Resolution.{Resolution}
@@ -187,4 +187,8 @@ module _ (s : List ℕ) (look : LookUp) (start end : ℕ) where
         pub passed-misused : (n : RowCount) → n ≡ record { 0 = k } → r .found ≡ MisusedLine → resolutionNumbered (Refused (MemoryOperand n)) ≡ heldPassed s look (sortedInstructions s start end)
         passed-misused n g f = ap (λ (x : RowCount). refused 11 (x .0)) g ∙ passed-no Misused 11 k refl f
 
-pub ruleset passed-laws = (line-laws, passed-crossed, passed-outside, passed-start, passed-end, passed-skip, passed-more, passed-unknown, passed-misused, needs)
+        -- 25: brackets outside mload and mstore
+        pub passed-bracketed : (n : RowCount) → n ≡ record { 0 = k } → r .found ≡ BracketedLine → resolutionNumbered (Refused (BracketMisplaced n)) ≡ heldPassed s look (sortedInstructions s start end)
+        passed-bracketed n g f = ap (λ (x : RowCount). refused 25 (x .0)) g ∙ passed-no Bracketed 25 k refl f
+
+pub ruleset passed-laws = (line-laws, passed-crossed, passed-outside, passed-start, passed-end, passed-skip, passed-more, passed-unknown, passed-misused, passed-bracketed, needs)

@@ -3,11 +3,12 @@ use Prim.Native.Nat.{ℕ, zero, suc, _+_, _^_, _<_}
 use mathlib.Core.Path.{_≡_, refl, sym, ap, ap₂, _∙_}
 use mathlib.Core.List.{List, _++_, map}
 use mathlib.Core.Bool.{Bool, true, false, _||_, cond, or-comm}
-use mathlib.Core.Option.{Option, none, some}
+use mathlib.Core.Option.{Option, none, some, Option·some-injective, Option·none-ne-some}
 use native.Mathlib.Omega.{arith}
-use lib.ListN.{length, take, length-append}
+use lib.ListN.{length, take, getElem?, length-append}
 use Rattle.text.specs.Lists.{total}
 use Rattle.text.specs.All.{All, none-left, one-more}
+use Rattle.text.proofs.EntryLaws.{at-behind}
 use Rattle.vm_opcodes.specs.declared.OlaOpcode.{OlaOpcode}
 use Rattle.vm_hardware.specs.declared.OlaRegister.{OlaRegister}
 use Rattle.vm_operands.specs.declared.ImmediateValue.{ImmediateValue}
@@ -67,6 +68,21 @@ words-before is cs zero = refl
 words-before is none-left (suc n) = refl
 words-before is (one-more {x = i} {xs = is′} c cs) (suc n) =
     length-append (wordsOf i) (programWords (take n is′)) ∙ ap₂ _+_ (words-emitted i c) (words-before is′ cs n)
+
+-- where the words before an instruction end, its first word stands
+pub first-there : (is : List BinaryInstruction) → All CanonicalForm is → (n : ℕ) (i : BinaryInstruction) → getElem? is n ≡ some i
+    → getElem? (programWords is) (wordsBefore is n) ≡ some (firstWord i)
+unfolding programWords total
+first-there is none-left n i e = absurd (Option·none-ne-some i e)
+first-there is (one-more {x = j} {xs = js} c cs) zero i e = first (secondWord j) ∙ ap (λ (b : BinaryInstruction). some (firstWord b)) (Option·some-injective j i e)
+  where
+    first : (v : Option ℕ) → getElem? (inOrder (firstWord j) v ++ programWords js) 0 ≡ some (firstWord j)
+    first none = refl
+    first (some v) = refl
+first-there is (one-more {x = j} {xs = js} c cs) (suc n) i e =
+    ap (λ (k : ℕ). getElem? (wordsOf j ++ programWords js) (k + wordsBefore js n)) (sym (words-emitted j c))
+    ∙ at-behind (wordsOf j) (programWords js) (wordsBefore js n)
+    ∙ first-there js cs n i e
 
 -- a program has as many words as are counted for its instructions
 pub total-emitted : (is : List BinaryInstruction) → All CanonicalForm is → length (programWords is) ≡ total (map emittedLength is)

@@ -1,5 +1,6 @@
 -- The promises applied: to document 01's printing source, to two mains, to a label, to two prophets on one host, and to carriage returns.
 use Prim.Native.Nat.{ℕ, zero, suc, _≤_, _<_}
+use mathlib.Core.Logic.{_⊎_}
 use mathlib.Core.Path.{_≡_, refl, sym, subst, _∙_}
 use mathlib.Core.List.{List, [], _∷_, map, zipWith}
 use mathlib.Core.Bool.{true}
@@ -30,13 +31,13 @@ use Rattle.asm.specs.declared.OlaAsmInstruction.{OlaAsmInstruction}
 use Rattle.asm.specs.declared.AsmRow.{AsmRow}
 use Rattle.asm.specs.declared.AsmRow.the-variants.{Instruction, LabelCall, LabelJmp, LabelProphet}
 use Rattle.relocate.specs.Scopes.{cutAtCalls, scopesThat, rowsOfScopes}
-use Rattle.relocate.specs.Labels.{callKind, jmpKind, labelRows, holder}
+use Rattle.relocate.specs.Labels.{LabelRow, callKind, jmpKind, prophetKind, labelRows, holder}
 use Rattle.relocate.specs.Prophets.{withoutLastEmpty, labelsAfterHead, listedLabels, hostsFrom, isIn, keptFrom}
 use Rattle.relocate.specs.Relocate.{firstAbove127, rowsRead, sortedOf, tabled, hostsOf}
 use Rattle.relocate.specs.Room.{roomOf}
 use Rattle.relocate.specs.declared.RoomFigures.{RoomFigures}
 use Rattle.program.specs.Instructions.{made, aNumber}
-use Rattle.program.specs.Words.{programWords, wordsBefore}
+use Rattle.program.specs.Words.{programWords, emittedLength, wordsBefore}
 use Rattle.program.specs.Groups.{grouped}
 use Rattle.program.specs.Bytecode.{linesOfGroups, joined, bytecodeOf, bytecodeWritten, textLeft}
 use Rattle.program.specs.declared.BinaryInstruction.{BinaryInstruction}
@@ -44,9 +45,9 @@ use Rattle.encoder.specs.Canonical.{namesOf, canonicalProgram, general, memory,
 use Rattle.encoder.specs.Assemble.{Room, Accepted, encodedRows, assembled, totalsOf, assembledTotals, wordsLeft}
 use Rattle.decoder.specs.Open.{opened, run}
 use Rattle.decoder.specs.Steps.{runAt, nthCall}
-use Rattle.promises.specs.Terms.{allClean, contentAt, HoldsCount, IsKept}
+use Rattle.promises.specs.Terms.{contentAt, IsPosition, IsPositionBefore, HoldsPosition, IsKept}
 use Rattle.promises.specs.Starred.{plenty, printingSource}
-use Rattle.promises.specs.Promises.{counts-answered, words-left, bytecode-left, room-is-built, words-within-counted, room-refused, room-suffices, room-never-short, run-by-offsets, nth-reads, one-program, bytecode-opens, run-reads, words-ahead, accepted-has-rows, names-are-word-counts, later-kept, kept-counted, rows-by-lines, same-lines}
+use Rattle.promises.specs.Promises.{counts-answered, words-left, bytecode-left, room-is-built, counted-is-words, room-refused, room-suffices, room-never-short, run-by-offsets, nth-reads, one-program, bytecode-opens, run-reads, words-ahead, accepted-has-rows, lengths-are-one, addresses-are-positions, names-are-word-counts, table-is-positions, later-kept, kept-counted, rows-by-lines, same-lines}
 
 -- ---- the printing source
 
@@ -126,8 +127,8 @@ printing-room : roomOf printingSource ≡ ok printingRoom
 unfolding instructions total
 printing-room = room-is-built printingSource [] plenty printingAccepted printing-accepted printingRows printing-sorted
 
-printing-within : printingRoom .words ≤ printingRoom .counted
-printing-within = words-within-counted printingSource [] plenty printingAccepted printing-accepted printingRoom printing-room
+printing-one : printingRoom .counted ≡ printingRoom .words
+printing-one = counted-is-words printingSource [] plenty printingAccepted printing-accepted printingRoom printing-room
 
 -- it is accepted into three entries and six words
 printing-just-so : assembled printingSource [] (record { entries = 3; words = 6; hosts = plenty .hosts }) ≡ ok printingAccepted
@@ -142,7 +143,7 @@ printing-listed : listedLabels printingList ≡ ok (bytes ".PROPHET0_0" ∷ [])
 unfolding same parts _>>_ refuseIf withoutLastEmpty labelsAfterHead listedLabels
 printing-listed = refl
 
-printing-never-short : (n d : ℕ) → assembled printingSource printingList (record { entries = 3; words = 6; hosts = 1 }) ≡ refused n d → (8 ≤ n) × (n ≤ 12)
+printing-never-short : (n d : ℕ) → assembled printingSource printingList (record { entries = 3; words = 6; hosts = 1 }) ≡ refused n d → ((8 ≤ n) × (n ≤ 12)) ⊎ (n ≡ 25)
 printing-never-short =
     room-never-short printingSource printingList (record { entries = 3; words = 6; hosts = 1 }) printingRoom printing-room (omega arith) (omega arith)
     λ labels e. subst (λ (l : List (List ℕ)). length l ≤ 1) (ok-same (sym printing-listed ∙ e)) (omega arith)
@@ -158,23 +159,42 @@ mains-no-room = refl
 mains-refused : (prophets : List ℕ) (room : Room) → assembled twoMains prophets room ≡ refused 6 0
 mains-refused prophets room = room-refused twoMains prophets room 6 0 mains-no-room
 
-printing-clean : allClean (instructions printingRows) ≡ true
-unfolding allClean instructions
-printing-clean = refl
-
 -- it has rows, four of them instructions, and the program is theirs
 printing-has-rows : (rows : List AsmRow) × (sortedOf printingSource ≡ ok rows) × (canonicalProgram printingSource rows ≡ ok printingProgram) × (length (instructions rows) ≡ 4)
 printing-has-rows = accepted-has-rows printingSource [] plenty printingAccepted printing-accepted
 
--- `call f` holds the count of the words before f's `ret`, which is 5
-printing-call : HoldsCount (namesOf printingSource printingRows) printingProgram callKind 28 1 (aNumber 5)
+-- each row counts as many words as its instruction has
+printing-lengths : 2 ∷ 2 ∷ 1 ∷ 1 ∷ [] ≡ map emittedLength printingProgram
+unfolding instructions
+printing-lengths = lengths-are-one printingSource [] plenty printingAccepted printing-accepted printingRows printing-sorted
+
+-- the address of f's `ret` is the count of the words ahead of it
+printing-address : 5 ≡ length (programWords (take 3 printingProgram))
+unfolding instructions total
+printing-address = addresses-are-positions printingSource [] plenty printingAccepted printing-accepted printingRows printing-sorted 3
+
+-- `call f` holds the count of the words before f's `ret`, which is 5, and the `ret` stands there
+printing-call : HoldsPosition (namesOf printingSource printingRows) printingAccepted callKind 28 1 (aNumber 5)
 unfolding instructions
 printing-call =
     let x =
-    names-are-word-counts printingSource [] plenty printingAccepted printing-accepted printingRows printing-sorted printing-clean
+    names-are-word-counts printingSource [] plenty printingAccepted printing-accepted printingRows printing-sorted
     1 (record { opcode = CALL; op0 = NoOperand; op1 = Identifier 28 1; dst = NoOperand }) refl in
     let e : made CALL Empty (aNumber 5) Empty ≡ x .0 = Option·some-injective _ _ (x .1) in
-    subst (λ (b : BinaryInstruction). HoldsCount (namesOf printingSource printingRows) printingProgram callKind 28 1 (contentAt Op1 b)) (sym e) (x .2 Op1 28 1 .0 refl)
+    subst (λ (b : BinaryInstruction). HoldsPosition (namesOf printingSource printingRows) printingAccepted callKind 28 1 (contentAt Op1 b)) (sym e) (x .2 Op1 28 1 .0 refl)
+
+-- so f's entry of the table, the third, has the position of the `ret`, and the prophet's, the second, that of `call f` before it
+printing-entry : (l : LabelRow) × (some (record { kind = callKind; start = 0; length = 1; marks = 3; mapped = true }) ≡ some l) × IsPosition printingAccepted (l .marks) 5
+unfolding instructions labelRows total
+printing-entry =
+    let x = table-is-positions printingSource [] plenty printingAccepted printing-accepted printingRows printing-sorted 2 (record { kind = callKind; mapped = true; start = 0; length = 1; address = record { 0 = 5 } }) refl refl in
+    (x .0, x .1, x .2 refl)
+
+printing-prophet : (l : LabelRow) × (some (record { kind = prophetKind; start = 30; length = 11; marks = 2; mapped = true }) ≡ some l) × IsPositionBefore printingAccepted (l .marks) 2
+unfolding instructions labelRows total
+printing-prophet =
+    let x = table-is-positions printingSource [] plenty printingAccepted printing-accepted printingRows printing-sorted 1 (record { kind = prophetKind; mapped = true; start = 30; length = 11; address = record { 0 = 2 } }) refl refl in
+    (x .0, x .1, x .4 refl)
 
 printing-words-ahead : length (programWords (take 3 printingProgram)) ≡ wordsBefore printingProgram 3
 printing-words-ahead = words-ahead printingSource [] plenty printingAccepted printing-accepted 3
@@ -214,17 +234,13 @@ label-sorted : sortedOf labelSource ≡ ok labelSorted
 unfolding isSpace isDigit isLetter isWord same scan all parts _>>=_ _>>_ refuseIf refuseAt digitValue valueFrom numeral operations firstOperation registers registerOf specialOf signed numberOf placed filledParts piecesFrom linePieces rowPieces isSourceNumber sourceNumber shapes firstMatch arranged operandsOf arrangedIf isCallRow isPairRow labelRow rowOf nameAt cutAtCalls scopesThat rowsOfScopes firstAbove127 readRows rowsRead sortedOf
 label-sorted = refl
 
-label-clean : allClean (instructions labelSorted) ≡ true
-unfolding allClean instructions
-label-clean = refl
-
 -- `jmp .LBL1_1` holds the count of the words before itself, which is 2
-label-jump : HoldsCount (namesOf labelSource labelSorted) labelProgram jmpKind 28 7 (aNumber 2)
+label-jump : HoldsPosition (namesOf labelSource labelSorted) labelAccepted jmpKind 28 7 (aNumber 2)
 unfolding instructions
 label-jump =
-    let x = names-are-word-counts labelSource [] plenty labelAccepted label-accepted labelSorted label-sorted label-clean 1 labelJump refl in
+    let x = names-are-word-counts labelSource [] plenty labelAccepted label-accepted labelSorted label-sorted 1 labelJump refl in
     let e : made JMP Empty (aNumber 2) Empty ≡ x .0 = Option·some-injective _ _ (x .1) in
-    subst (λ (b : BinaryInstruction). HoldsCount (namesOf labelSource labelSorted) labelProgram jmpKind 28 7 (contentAt Op1 b)) (sym e) (x .2 Op1 28 7 .1 refl)
+    subst (λ (b : BinaryInstruction). HoldsPosition (namesOf labelSource labelSorted) labelAccepted jmpKind 28 7 (contentAt Op1 b)) (sym e) (x .2 Op1 28 7 .1 refl)
 
 -- ---- two prophets on one host
 

@@ -1,6 +1,7 @@
--- What the steps of a build after the label table refuse: 8 to 12, and 13 where something that is lent is short.
+-- What the steps of a build after the label table refuse: 8 to 12 and 25, and 13 where something that is lent is short.
 use Prim.Native.Nat.{ℕ, suc, _≤_}
-use mathlib.Core.Path.{_≡_, refl, sym}
+use mathlib.Core.Logic.{_⊎_, inl, inr}
+use mathlib.Core.Path.{_≡_, refl, sym, subst}
 use mathlib.Core.List.{List, [], _∷_}
 use mathlib.Core.Bool.{Bool, true, false, cond}
 use mathlib.Core.Option.{Option, none, some}
@@ -20,32 +21,36 @@ use Rattle.asm.specs.declared.OlaAsmInstruction.{OlaAsmInstruction}
 use Rattle.asm.specs.declared.AsmRow.{AsmRow}
 use Rattle.relocate.specs.Labels.{LabelRow, callKind, jmpKind, prophetKind, labelRows, holder}
 use Rattle.relocate.specs.Prophets.{labelsAfterHead, hostFound, hostsFrom}
-use Rattle.encoder.specs.Canonical.{Names, holderOf, lookedUp, plain, general, valueOf, anchored, memory, canonicalBy, canonicalFrom}
+use Rattle.encoder.specs.Canonical.{Names, holderOf, lookedUp, plain, hasBracket, general, valueOf, anchored, memory, canonicalBy, canonicalFrom}
 
--- every refusal is one of 8 to 12
+-- one of 8 to 12, or 25
+abbrev pub IsLate : ℕ → Type 0
+IsLate n = ((8 ≤ n) × (n ≤ 12)) ⊎ (n ≡ 25)
+
+-- every refusal is one of them
 abbrev pub Late : {A : Type 0} → Answer A → Type 0
-Late x = (n d : ℕ) → x ≡ refused n d → (8 ≤ n) × (n ≤ 12)
+Late x = (n d : ℕ) → x ≡ refused n d → IsLate n
 
 pub ok-late : {A : Type 0} (a : A) → Late (ok a)
 ok-late a n d e = absurd (not-ok (sym e))
 
-pub no-late : {A : Type 0} (n d : ℕ) → 8 ≤ n → n ≤ 12 → Late {A = A} (refused n d)
-no-late n d k l m c e = let q : n ≡ m = cc in (omega arith, omega arith)
+pub no-late : {A : Type 0} (n d : ℕ) → IsLate n → Late {A = A} (refused n d)
+no-late n d k m c e = let q : n ≡ m = cc in subst IsLate q k
 
 pub bind-late : {A B : Type 0} (x : Answer A) (f : A → Answer B) → Late x → ((a : A) → Late (f a)) → Late (x >>= f)
 unfolding _>>=_
 bind-late (ok a) f h k = k a
-bind-late (refused n d) f h k = let w = h n d refl in no-late n d (w .0) (w .1)
+bind-late (refused n d) f h k = no-late n d (h n d refl)
 
-pub if-late : {A : Type 0} (t : Bool) (n : ℕ) (x : Answer A) → 8 ≤ n → n ≤ 12 → Late x → Late (refuseIf t n >> x)
+pub if-late : {A : Type 0} (t : Bool) (n : ℕ) (x : Answer A) → IsLate n → Late x → Late (refuseIf t n >> x)
 unfolding _>>_ refuseIf
-if-late true n x k l h = no-late n 0 k l
-if-late false n x k l h = h
+if-late true n x k h = no-late n 0 k
+if-late false n x k h = h
 
-pub at-late : {A : Type 0} (o : Option ℕ) (n : ℕ) (x : Answer A) → 8 ≤ n → n ≤ 12 → Late x → Late (refuseAt o n >> x)
+pub at-late : {A : Type 0} (o : Option ℕ) (n : ℕ) (x : Answer A) → IsLate n → Late x → Late (refuseAt o n >> x)
 unfolding _>>_ refuseAt
-at-late (some d) n x k l h = no-late n d k l
-at-late none n x k l h = h
+at-late (some d) n x k h = no-late n d k
+at-late none n x k h = h
 
 -- 8
 pub head-late : (ls : List (List ℕ)) → Late (labelsAfterHead ls)
@@ -55,11 +60,11 @@ head-late (l ∷ ls) = go (same l (bytes "label"))
   where
     go : (t : Bool) → Late (cond t (ok ls) (refused 8 0))
     go true = ok-late ls
-    go false = no-late 8 0 (omega arith) (omega arith)
+    go false = no-late 8 0 (inl (omega arith, omega arith))
 
 -- 9
 host-late : (is : List OlaAsmInstruction) (k : ℕ) (o : Option LabelRow) → Late (hostFound is k o)
-host-late is k none = no-late 9 k (omega arith) (omega arith)
+host-late is k none = no-late 9 k (inl (omega arith, omega arith))
 host-late is k (some l) = ok-late _
 
 pub hosts-late : (s : List ℕ) (rows : List AsmRow) (k : ℕ) (labels : List (List ℕ)) → Late (hostsFrom s rows k labels)
@@ -69,9 +74,9 @@ hosts-late s rows k (x ∷ xs) =
     bind-late _ _ (host-late (instructions rows) k (holder s prophetKind x (labelRows 0 rows)))
     λ h. bind-late _ _ (hosts-late s rows (suc k) xs) λ hs. ok-late (h ∷ hs)
 
--- 10
+-- 10 and 25
 found-late : (names : Names) (k : ℕ) (o : Option LabelRow) → Late (lookedUp names k o)
-found-late names k none = no-late 10 k (omega arith) (omega arith)
+found-late names k none = no-late 10 k (inl (omega arith, omega arith))
 found-late names k (some l) = ok-late _
 
 plain-late : (names : Names) (k : ℕ) (x : OlaAsmOperand) → Late (plain names k x)
@@ -87,11 +92,12 @@ plain-late names k (Identifier start n) = found-late names k (holderOf names cal
 general-late : (names : Names) (k : ℕ) (i : OlaAsmInstruction) → Late (general names k i)
 unfolding general
 general-late names k i =
-    bind-late _ _ (plain-late names k (i .op0)) λ a. bind-late _ _ (plain-late names k (i .op1)) λ b. bind-late _ _ (plain-late names k (i .dst)) λ c. ok-late _
+    at-late (cond (hasBracket i) (some k) none) 25 _ (inr refl)
+    (bind-late _ _ (plain-late names k (i .op0)) λ a. bind-late _ _ (plain-late names k (i .op1)) λ b. bind-late _ _ (plain-late names k (i .dst)) λ c. ok-late _)
 
 -- 11
 eleven : {A : Type 0} (k : ℕ) → Late {A = A} (refused 11 k)
-eleven k = no-late 11 k (omega arith) (omega arith)
+eleven k = no-late 11 k (inl (omega arith, omega arith))
 
 value-late : (k : ℕ) (x : OlaAsmOperand) → Late (valueOf k x)
 value-late k Empty = eleven k

@@ -2,7 +2,7 @@
 use Prim.Native.Nat.{ℕ, suc, _*_, _≤_}
 use mathlib.Core.Path.{_≡_, refl, sym, ap, subst, _∙_}
 use mathlib.Core.List.{List, [], _∷_, map}
-use mathlib.Core.Bool.{Bool, true, false, not, _||_}
+use mathlib.Core.Bool.{Bool, true, false, not, _||_, cond}
 use native.Mathlib.Omega.{arith}
 use borrow.Author.Tests.{not-true}
 use Rattle.text.specs.Lists.{total}
@@ -25,11 +25,15 @@ use Rattle.program.specs.Words.{emittedLength}
 use Rattle.program.specs.declared.BinaryInstruction.{BinaryInstruction}
 use Rattle.encoder.specs.Canonical.{Names, namesOf, plain, general, canonicalBy, canonicalOf, canonicalFrom}
 use Rattle.encoder.specs.Assemble.{Room, Accepted, assembled}
-use Rattle.encoder.proofs.RowWordLaws.{most-two}
+use Rattle.encoder.proofs.Origins.{general-resolved}
 use Rattle.encoder.proofs.AcceptedLaws.{accepted-rows}
 use Rattle.decoder.specs.Open.{maxBytecodeBytes}
 
 -- ---- the words of an instruction
+
+most-two : (t : Bool) → cond t 2 1 ≤ 2
+most-two true = omega arith
+most-two false = omega arith
 
 emitted-most : (b : BinaryInstruction) → emittedLength b ≤ 2
 emitted-most b = most-two (isMemory (b .opcode) || isNumber (b .op1))
@@ -44,13 +48,10 @@ bare-no-memory o e =
 module _ (names : Names) (k : ℕ) (i : OlaAsmInstruction) (b : BinaryInstruction) where
   -- one word where op1 is empty and the operation is no mload or mstore
   general-one : isMemory (i .opcode) ≡ false → i .op1 ≡ Empty → general names k i ≡ ok b → emittedLength b ≡ 1
-  unfolding general
   general-one m e h =
-      let x = ok-bind (plain names k (i .op0)) _ b h in
-      let y = ok-bind (plain names k (i .op1)) _ b (x .2) in
-      let z = ok-bind (plain names k (i .dst)) _ b (y .2) in
-      let n : NoContent ≡ y .0 = ok-same (ap (plain names k) (sym e) ∙ y .1) in
-      ap emittedLength (sym (ok-same (z .2))) ∙ rw (m, ← n)
+      let r = general-resolved names k i b h .1 in
+      let n : NoContent ≡ b .op1 = ok-same (ap (plain names k) (sym e) ∙ r .op1) in
+      rw (← r .opcode, m, ← n)
 
   canonical-words : BareIsEmpty i → canonicalOf names k i ≡ ok b → 19 * emittedLength b ≤ 7 * leastBytes (i .opcode)
   unfolding canonicalBy

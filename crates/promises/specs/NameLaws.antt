@@ -1,15 +1,16 @@
--- In an accepted source whose brackets stand in mload and mstore alone, counted lengths are emitted lengths, and names are counts of words.
+-- In an accepted source counted lengths are emitted lengths, and names are counts of words.
 use Prim.Native.Nat.{ℕ, zero, suc, _+_}
 use mathlib.Core.Path.{_≡_, refl, sym, ap, ap₂, _∙_, subst}
 use mathlib.Core.List.{List, _∷_, map}
-use mathlib.Core.Bool.{Bool, true, false, not, _&&_, _||_, cond, true≢false, false≢true}
+use mathlib.Core.Bool.{Bool, true, false, _||_, cond, true≢false, false≢true}
 use mathlib.Core.Option.{Option, none, some, Option·some-injective, Option·none-ne-some}
 use native.Mathlib.Omega.{arith}
 use lib.ListN.{take, getElem?}
 use Rattle.text.specs.Lists.{total}
 use Rattle.text.specs.Answer.{ok}
-use Rattle.text.specs.All.{All, none-left, one-more}
+use Rattle.text.specs.All.{All, one-more}
 use Rattle.text.proofs.AnswerLaws.{ok-same}
+use Rattle.text.proofs.EntryLaws.{all-at}
 use Rattle.vm_opcodes.specs.declared.OlaOpcode.{OlaOpcode}
 use Rattle.vm_hardware.specs.declared.Place.{Place}
 use Rattle.vm_hardware.specs.declared.Place.the-variants.{Op0, Op1, Dst}
@@ -25,10 +26,10 @@ use Rattle.relocate.specs.Labels.{LabelRow, callKind, jmpKind, addressOf}
 use Rattle.program.specs.Instructions.{aNumber, isNumber, isMemory}
 use Rattle.program.specs.Words.{emittedLength, wordsBefore}
 use Rattle.program.specs.declared.BinaryInstruction.{BinaryInstruction}
-use Rattle.encoder.specs.Canonical.{Names, namesOf, holderOf, lookedUp, plain, canonicalOf, canonicalProgram, firstMisplaced}
+use Rattle.encoder.specs.Canonical.{Names, namesOf, holderOf, lookedUp, plain, isBracketed, canonicalOf, canonicalProgram, firstMisplaced}
 use Rattle.encoder.proofs.Origins.{memory-rows, anchored-counted, Resolved, Anchored, by-offset, by-factor, Origin, ordinary, load, store, canonical-origin}
 use Rattle.encoder.proofs.AcceptedLaws.{Pairs, no-pair, one-pair, canonical-pairs, WellPlaced, well-placed, looked-up}
-use Rattle.promises.specs.Terms.{isBracketed, isClean, allClean, operandAt, contentAt, HoldsCount}
+use Rattle.promises.specs.Terms.{operandAt, contentAt}
 
 -- ---- counted and emitted lengths
 
@@ -50,11 +51,10 @@ plain-counted names k (SpecialReg t) c e h = subst (Counts 0) (ok-same e) refl
 plain-counted names k (Label start n) c e h = found-counted names k (holderOf names jmpKind start n) c e
 plain-counted names k (Identifier start n) c e h = found-counted names k (holderOf names callKind start n) c e
 
-clean-places : (m a b d : Bool) → (m || not (a || b || d)) ≡ true → m ≡ false → (a ≡ false) × (b ≡ false)
-clean-places true a b d e h = absurd (true≢false h)
-clean-places false true b d e h = absurd (false≢true e)
-clean-places false false true d e h = absurd (false≢true e)
-clean-places false false false d e h = (refl, refl)
+unbracketed : (a b d : Bool) → (a || b || d) ≡ false → (a ≡ false) × (b ≡ false)
+unbracketed true b d e = absurd (true≢false e)
+unbracketed false true d e = absurd (true≢false e)
+unbracketed false false d e = (refl, refl)
 
 plain-length : (m t : Bool) (x y : ℕ) → m ≡ false → x ≡ 0 → y ≡ cond t 1 0 → 1 + x + y ≡ cond (m || t) 2 1
 plain-length true t x y h p q = absurd (true≢false h)
@@ -65,38 +65,32 @@ memory-length : (m t : Bool) (x y : ℕ) → m ≡ true → x + y ≡ 1 → 1 + 
 memory-length true t x y h e = omega arith
 memory-length false t x y h e = absurd (false≢true h)
 
-length-agrees : (names : Names) (k : ℕ) (i : OlaAsmInstruction) (b : BinaryInstruction) → Origin names k i b → WellPlaced b → isClean i ≡ true → MemoryShaped i
+length-agrees : (names : Names) (k : ℕ) (i : OlaAsmInstruction) (b : BinaryInstruction) → Origin names k i b → WellPlaced b → MemoryShaped i
     → countedLength i ≡ emittedLength b
-length-agrees names k i b (ordinary m r) w c s =
-    let f = clean-places (isMemory (i .opcode)) (isBracketed (i .op0)) (isBracketed (i .op1)) (isBracketed (i .dst)) c m in
+length-agrees names k i b (ordinary m z r) w s =
+    let f = unbracketed (isBracketed (i .op0)) (isBracketed (i .op1)) (isBracketed (i .dst)) z in
     plain-length (isMemory (b .opcode)) (isNumber (b .op1)) (counted (i .op0)) (counted (i .op1))
     (sym (ap isMemory (r .opcode)) ∙ m)
     (subst (λ t. counted (i .op0) ≡ cond t 1 0) (w .op0) (plain-counted names k (i .op0) (b .op0) (r .op0) (f .0)))
     (plain-counted names k (i .op1) (b .op1) (r .op1) (f .1))
-length-agrees names k i b (load e a) w c s =
+length-agrees names k i b (load e a) w s =
     let f = anchored-counted (i .opcode) (i .op1) (i .dst) b a in
     let z : counted (i .op0) ≡ 0 = ap counted (s .load e) in
     let o : counted (i .op1) ≡ 1 = f .0 in
     memory-length (isMemory (b .opcode)) (isNumber (b .op1)) (counted (i .op0)) (counted (i .op1))
     (sym (ap isMemory (f .2)) ∙ memory-rows (i .opcode) ∙ ap isMemoryRow e) (omega arith)
-length-agrees names k i b (store e a) w c s =
+length-agrees names k i b (store e a) w s =
     let f = anchored-counted (i .opcode) (i .op0) (i .op1) b a in
     let o : counted (i .op0) ≡ 1 = f .0 in
     let z : counted (i .op1) ≡ 0 = f .1 in
     memory-length (isMemory (b .opcode)) (isNumber (b .op1)) (counted (i .op0)) (counted (i .op1))
     (sym (ap isMemory (f .2)) ∙ memory-rows (i .opcode) ∙ ap isMemoryRow e) (omega arith)
 
-both-true : (t u : Bool) → (t && u) ≡ true → (t ≡ true) × (u ≡ true)
-both-true true u e = (refl, e)
-both-true false u e = absurd (false≢true e)
-
-pairs-agree : (names : Names) (k : ℕ) (is : List OlaAsmInstruction) (bs : List BinaryInstruction) → Pairs names k is bs → All WellPlaced bs → allClean is ≡ true
-    → All MemoryShaped is → map countedLength is ≡ map emittedLength bs
-unfolding allClean
-pairs-agree names k is bs no-pair ws c ss = refl
-pairs-agree names k is bs (one-pair {i = i} {b = b} {is = js} {bs = cs} e p) (one-more w ws) c (one-more s ss) =
-    let f = both-true (isClean i) (allClean js) c in
-    ap₂ _∷_ (length-agrees names k i b (canonical-origin names k i b e) w (f .0) s) (pairs-agree names (suc k) js cs p ws (f .1) ss)
+pairs-agree : (names : Names) (k : ℕ) (is : List OlaAsmInstruction) (bs : List BinaryInstruction) → Pairs names k is bs → All WellPlaced bs → All MemoryShaped is
+    → map countedLength is ≡ map emittedLength bs
+pairs-agree names k is bs no-pair ws ss = refl
+pairs-agree names k is bs (one-pair {i = i} {b = b} {is = js} {bs = cs} e p) (one-more w ws) (one-more s ss) =
+    ap₂ _∷_ (length-agrees names k i b (canonical-origin names k i b e) w s) (pairs-agree names (suc k) js cs p ws ss)
 
 -- ---- names
 
@@ -136,7 +130,7 @@ place-resolved names k i b r Dst = r .dst
 -- a place with a name or a label is made what its lookup found
 name-found : (names : Names) (k : ℕ) (i : OlaAsmInstruction) (b : BinaryInstruction) → Origin names k i b → MemoryShaped i → (place : Place) (x : OlaAsmOperand)
     → operandAt place i ≡ x → isLookedUp x ≡ true → plain names k x ≡ ok (contentAt place b)
-name-found names k i b (ordinary m r) s place x e t = sym (ap (plain names k) e) ∙ place-resolved names k i b r place
+name-found names k i b (ordinary m z r) s place x e t = sym (ap (plain names k) e) ∙ place-resolved names k i b r place
 name-found names k i b (load p a) s place x e t =
     absurd (true≢false (sym t ∙ sym (ap isLookedUp e) ∙ load-nameless i b (s .load p) a place))
 name-found names k i b (store p a) s place x e t =
@@ -149,17 +143,17 @@ pairs-at names k is bs no-pair n i g = absurd (Option·none-ne-some i g)
 pairs-at names k is bs (one-pair {i = j} {b = c} e p) zero i g = (c, refl, k, sym (ap (canonicalOf names k) (Option·some-injective j i g)) ∙ e)
 pairs-at names k is bs (one-pair {is = js} {bs = cs} e p) (suc n) i g = pairs-at names (suc k) js cs p n i g
 
-all-at : {P : OlaAsmInstruction → Type 0} (is : List OlaAsmInstruction) → All P is → (n : ℕ) (i : OlaAsmInstruction) → getElem? is n ≡ some i → P i
-all-at is none-left n i g = absurd (Option·none-ne-some i g)
-all-at {P} is (one-more {x = j} h hs) zero i g = subst P (Option·some-injective j i g) h
-all-at is (one-more {xs = js} h hs) (suc n) i g = all-at js hs n i g
+-- the row of a kind that holds a name, and a content that is the count of words before what it marks
+abbrev pub HoldsCount : Names → List BinaryInstruction → ℕ → ℕ → ℕ → OlaOperand → Type 0
+HoldsCount names program kind start n content =
+    (l : LabelRow) × (holderOf names kind start n ≡ some l) × (content ≡ aNumber (wordsBefore program (l .marks)))
 
 module _ (s : List ℕ) (rows : List AsmRow) (is : List BinaryInstruction) (canonical : canonicalProgram s rows ≡ ok is) (placed : firstMisplaced 0 is ≡ none)
-    (clean : allClean (instructions rows) ≡ true) (shaped : All MemoryShaped (instructions rows)) where
+    (shaped : All MemoryShaped (instructions rows)) where
   -- every row counts as many words as its instruction has
   pub lengths-agree : map countedLength (instructions rows) ≡ map emittedLength is
   lengths-agree =
-      pairs-agree (namesOf s rows) 0 (instructions rows) is (canonical-pairs (namesOf s rows) 0 (instructions rows) is canonical) (well-placed 0 is placed) clean shaped
+      pairs-agree (namesOf s rows) 0 (instructions rows) is (canonical-pairs (namesOf s rows) 0 (instructions rows) is canonical) (well-placed 0 is placed) shaped
 
   -- addresses are counts of words
   pub addresses-are-words : (n : ℕ) → addressOf (instructions rows) n ≡ wordsBefore is n

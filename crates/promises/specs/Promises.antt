@@ -6,7 +6,7 @@
 -- A source is accepted where assembling it, with some prophets and some room, answers ok a: a .program is then its canonical program, made
 -- from its rows, a .words its words, and bytecodeOf (a .words) its bytecode.
 use Prim.Native.Nat.{ℕ, suc, _+_, _-_, _≤_, _<_}
-use mathlib.Core.Logic.{_↔_}
+use mathlib.Core.Logic.{_↔_, _⊎_}
 use mathlib.Core.Path.{_≡_, refl, sym, ap, _∙_}
 use mathlib.Core.List.{List, _++_, map}
 use mathlib.Core.Bool.{true}
@@ -18,18 +18,19 @@ use Rattle.text.specs.Answer.{Answer, ok, refused, _>>=_}
 use Rattle.text.specs.All.{All, Ascending}
 use Rattle.vm_hardware.specs.declared.Place.{Place}
 use Rattle.asm.specs.Parts.{sourcePieces, textOf, placedLines}
-use Rattle.asm.specs.Rows.{instructions}
+use Rattle.asm.specs.Rows.{countedLength, instructions}
 use Rattle.asm.specs.declared.OlaAsmOperand.the-variants.{Label, Identifier}
 use Rattle.asm.specs.declared.OlaAsmInstruction.{OlaAsmInstruction}
 use Rattle.asm.specs.declared.AsmRow.{AsmRow}
 use Rattle.asm_laws.proofs.LineLaws.{textRows, lines-texts}
-use Rattle.relocate.specs.Labels.{callKind, jmpKind, addressOf}
+use Rattle.relocate.specs.Labels.{LabelRow, callKind, jmpKind, prophetKind, labelRows, addressOf, tableOf}
 use Rattle.relocate.specs.Prophets.{listedLabels, placeOf, keptFrom}
 use Rattle.relocate.specs.Relocate.{rowsRead, sortedOf}
 use Rattle.relocate.specs.Room.{roomOf}
+use Rattle.relocate.specs.declared.LabelEntry.{LabelEntry}
 use Rattle.relocate.specs.declared.RoomFigures.{RoomFigures}
 use Rattle.relocate_laws.proofs.KeptLaws.{places-ascend, later-kept as last-is-kept}
-use Rattle.program.specs.Words.{programWords, wordsBefore}
+use Rattle.program.specs.Words.{programWords, emittedLength, wordsBefore}
 use Rattle.program.specs.Bytecode.{bytecodeOf, bytecodeWritten, textLeft}
 use Rattle.program.specs.declared.BinaryInstruction.{BinaryInstruction}
 use Rattle.program.specs.CanonicalForm.{CanonicalForm, InOrder}
@@ -45,12 +46,12 @@ use Rattle.decoder.specs.Steps.{runAt, nthCall}
 use Rattle.decoder.proofs.BytecodeLaws.{opens}
 use Rattle.decoder.proofs.OffsetLaws.{run-by-offsets as offsets-run}
 use Rattle.decoder.proofs.OpenedLaws.{opened-run as run-opened, opened-form as form-opened}
-use Rattle.promises.specs.Terms.{SameProgram, allClean, operandAt, contentAt, HoldsCount, IsKept, rowsByLines}
+use Rattle.promises.specs.Terms.{SameProgram, operandAt, contentAt, IsPosition, IsPositionBefore, HoldsPosition, IsKept, rowsByLines}
 use Rattle.promises.specs.TieLaws.{left-front, bytecode-fits, nth-answer, lines-read}
 use Rattle.promises.specs.SameLaws.{words-same, bytecode-same, program-alone}
 use Rattle.promises.specs.AcceptedLaws.{accepted-words, accepted-readable, accepted-short, accepted-form}
-use Rattle.promises.specs.NamePromise.{rows-there, names-counted}
-use Rattle.promises.specs.RoomLaws.{room-built, words-within, refused-so, room-enough, room-late}
+use Rattle.promises.specs.NamePromise.{rows-there, lengths-one, address-words, names-counted, table-positions}
+use Rattle.promises.specs.RoomLaws.{room-built, counted-words, refused-so, room-enough, room-late}
 
 -- What a caller holds after an accepted call.
 module _ (s prophets : List ℕ) (room : Room) (a : Accepted) (h : assembled s prophets room ≡ ok a) where
@@ -75,10 +76,10 @@ module _ (s prophets : List ℕ) (room : Room) (a : Accepted) (h : assembled s p
       → roomOf s ≡ ok (record { labels = a .labels; instructions = length (a .program); counted = addressOf (instructions rows) (length (a .program)); words = length (a .words) })
   room-is-built = room-built s prophets room a h
 
-  -- Of an accepted source they tell no more words than its counted length. (Of one that 11 turns away they may.)
-  -- Who sets aside a word for each address has set aside enough.
-  pub words-within-counted : (f : RoomFigures) → roomOf s ≡ ok f → f .words ≤ f .counted
-  words-within-counted = words-within s prophets room a h
+  -- Of an accepted source they tell one number as its counted length and its words. (Of one that 11, 12 or 25 turns away they may tell two.)
+  -- Who sets aside a word for each address has set aside just enough.
+  pub counted-is-words : (f : RoomFigures) → roomOf s ≡ ok f → f .counted ≡ f .words
+  counted-is-words = counted-words s prophets room a h
 
 -- Any source, prophets and room.
 module _ (s prophets : List ℕ) (room : Room) where
@@ -95,12 +96,12 @@ module _ (s prophets : List ℕ) (room : Room) where
       → assembled s prophets room ≡ assembled s prophets (record { entries = f .labels; words = f .words; hosts = room .hosts })
   room-suffices = room-enough s prophets room
 
-  -- With a host for each listed prophet besides, what is refused is one of 8 to 12: neither 7 nor 13.
+  -- With a host for each listed prophet besides, what is refused is one of 8 to 12 or 25: neither 7 nor 13.
   -- Of the same functions.
   -- A caller that lends what it was told, and hosts by its list, is never told that it lent too little.
   pub room-never-short : (f : RoomFigures) → roomOf s ≡ ok f → f .labels ≤ room .entries → f .words ≤ room .words
       → ((labels : List (List ℕ)) → listedLabels prophets ≡ ok labels → length labels ≤ room .hosts)
-      → (n d : ℕ) → assembled s prophets room ≡ refused n d → (8 ≤ n) × (n ≤ 12)
+      → (n d : ℕ) → assembled s prophets room ≡ refused n d → ((8 ≤ n) × (n ≤ 12)) ⊎ (n ≡ 25)
   room-never-short = room-late s prophets room
 
 -- Two accepted sources, each with prophets and room of its own.
@@ -187,17 +188,39 @@ module _ (s prophets : List ℕ) (room : Room) (a : Accepted) (h : assembled s p
   pub accepted-has-rows : (rows : List AsmRow) × (sortedOf s ≡ ok rows) × (canonicalProgram s rows ≡ ok (a .program)) × (length (instructions rows) ≡ length (a .program))
   accepted-has-rows = rows-there s prophets room a h
 
-  -- Where no bracketed operand stands outside mload and mstore, the k-th instruction row has its k-th instruction, and each name in a place of the
-  -- row is, in that place of the instruction, the count of words before the instruction that is marked by the row that holds the name; each label
-  -- likewise.
+  -- The counted length of each of its rows is the count of words of that row's instruction.
+  -- Of the same functions, and relocate_measure::room_of and ola_room_of, which tell the sum.
+  -- A reviewer need not tell the two lengths apart: 25 turns away the rows in which they differ.
+  pub lengths-are-one : (rows : List AsmRow) → sortedOf s ≡ ok rows → map countedLength (instructions rows) ≡ map emittedLength (a .program)
+  lengths-are-one = lengths-one s prophets room a h
+
+  -- The address of instruction n, a sum of counted lengths, is how many words the instructions ahead of it have.
   -- Of the same functions.
-  -- A jump or a call in such a source goes where its name stands.
-  pub names-are-word-counts : (rows : List AsmRow) → sortedOf s ≡ ok rows → allClean (instructions rows) ≡ true
-      → (k : ℕ) (i : OlaAsmInstruction) → getElem? (instructions rows) k ≡ some i
+  -- An address is a position in the words: what stands there is the instruction.
+  pub addresses-are-positions : (rows : List AsmRow) → sortedOf s ≡ ok rows → (n : ℕ) → addressOf (instructions rows) n ≡ length (programWords (take n (a .program)))
+  addresses-are-positions rows e n = address-words s prophets room a h rows e n ∙ sym (words-ahead n)
+
+  -- The k-th instruction row has its k-th instruction, and each name in a place of the row is, in that place of the instruction, the count of words
+  -- before the instruction that is marked by the row that holds the name; that instruction is there, and its first word stands at that count. Each
+  -- label likewise.
+  -- Of the same functions.
+  -- A jump or a call goes where its name stands, in every accepted source.
+  pub names-are-word-counts : (rows : List AsmRow) → sortedOf s ≡ ok rows → (k : ℕ) (i : OlaAsmInstruction) → getElem? (instructions rows) k ≡ some i
       → (b : BinaryInstruction) × (getElem? (a .program) k ≡ some b) × ((place : Place) (start n : ℕ)
-      → (operandAt place i ≡ Identifier start n → HoldsCount (namesOf s rows) (a .program) callKind start n (contentAt place b))
-      × (operandAt place i ≡ Label start n → HoldsCount (namesOf s rows) (a .program) jmpKind start n (contentAt place b)))
+      → (operandAt place i ≡ Identifier start n → HoldsPosition (namesOf s rows) a callKind start n (contentAt place b))
+      × (operandAt place i ≡ Label start n → HoldsPosition (namesOf s rows) a jmpKind start n (contentAt place b)))
   names-are-word-counts = names-counted s prophets room a h
+
+  -- Every entry of the label table that is mapped, a call's or a `.LBL` row's, has the position of the instruction that its row marks; a prophet's that
+  -- of the instruction before its row, 0 where there is none.
+  -- Of encoder_assemble::assemble_parts and encoder_entries::assemble, ola_assemble_parts and ola_assemble, which fill this table.
+  -- Who looks a name up in the table finds the place of its instruction among the words.
+  pub table-is-positions : (rows : List AsmRow) → sortedOf s ≡ ok rows → (k : ℕ) (t : LabelEntry) → getElem? (tableOf rows) k ≡ some t → t .mapped ≡ true
+      → (l : LabelRow) × (getElem? (labelRows 0 rows) k ≡ some l)
+      × (t .kind ≡ callKind → IsPosition a (l .marks) (t .address .0))
+      × (t .kind ≡ jmpKind → IsPosition a (l .marks) (t .address .0))
+      × (t .kind ≡ prophetKind → IsPositionBefore a (l .marks) (t .address .0))
+  table-is-positions = table-positions s prophets room a h
 
   -- Of the prophets on one host the last in the list is kept, and no other.
   -- Of the count kept that the same functions answer, and the hosts that they leave, in list order.

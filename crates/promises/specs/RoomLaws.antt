@@ -1,5 +1,6 @@
--- Point 1: the figures of an accepted source are those of its build, its words are at most its counted length, and lending just so much is enough.
+-- Point 1: the figures of an accepted source are those of its build, its counted length is its words, and lending just so much is enough.
 use Prim.Native.Nat.{ℕ, suc, _≤_}
+use mathlib.Core.Logic.{_⊎_, inl}
 use mathlib.Core.Path.{_≡_, refl, sym, ap, _∙_, subst}
 use mathlib.Core.List.{List, [], _∷_, map}
 use mathlib.Core.Bool.{Bool, false, _||_}
@@ -12,7 +13,7 @@ use lib.Seq.{take-all}
 use Rattle.text.specs.Lists.{total}
 use Rattle.text.specs.Answer.{Answer, ok, refused, _>>=_, _>>_, refuseIf, refuseAt}
 use Rattle.text.proofs.AnswerLaws.{ok-same, ok-bind}
-use Rattle.asm.specs.Rows.{counted, countedLength, instructions}
+use Rattle.asm.specs.Rows.{countedLength, instructions}
 use Rattle.asm.specs.declared.OlaAsmInstruction.{OlaAsmInstruction}
 use Rattle.asm.specs.declared.AsmRow.{AsmRow}
 use Rattle.relocate.specs.Labels.{prophetKind, labelRows, addressOf, holder}
@@ -24,10 +25,10 @@ use Rattle.program.specs.Words.{programWords}
 use Rattle.program.specs.declared.BinaryInstruction.{BinaryInstruction}
 use Rattle.encoder.specs.Canonical.{namesOf, canonicalProgram, firstMisplaced}
 use Rattle.encoder.specs.Assemble.{Room, Accepted, encodedRows, assembled}
-use Rattle.encoder.proofs.RowWordLaws.{program-words, words-within-length, rows-length}
+use Rattle.encoder.proofs.RowWordLaws.{rows-words, program-words, rows-length}
 use Rattle.encoder.proofs.AcceptedLaws.{accepted-rows}
 use Rattle.promises.specs.LateLaws.{Late, ok-late, no-late, bind-late, if-late, at-late, head-late, hosts-late, program-late}
-use Rattle.promises.specs.NamePromise.{of-rows}
+use Rattle.promises.specs.NamePromise.{of-rows, lengths-one}
 
 -- ---- an accepted source
 
@@ -52,11 +53,12 @@ module _ (s prophets : List ℕ) (room : Room) (a : Accepted) (h : assembled s p
   unfolding roomOf _>>=_
   room-built rows e = rw e (ap ok (figures-built rows e))
 
-  pub words-within : (f : RoomFigures) → roomOf s ≡ ok f → f .words ≤ f .counted
+  pub counted-words : (f : RoomFigures) → roomOf s ≡ ok f → f .counted ≡ f .words
   unfolding roomOf
-  words-within f e =
+  counted-words f e =
       let x = ok-bind (sortedOf s) _ f e in
-      subst (λ (f : RoomFigures). f .words ≤ f .counted) (ok-same (x .2)) (words-within-length s (x .0) (a .program) (of-rows s prophets room a h (x .0) (x .1)))
+      subst (λ (f : RoomFigures). f .counted ≡ f .words) (ok-same (x .2))
+      (ap total (lengths-one s prophets room a h (x .0) (x .1) ∙ rows-words s (x .0) (a .program) (of-rows s prophets room a h (x .0) (x .1))))
 
 -- ---- 13 where the words fit
 
@@ -64,7 +66,7 @@ module _ (s prophets : List ℕ) (room : Room) (a : Accepted) (h : assembled s p
 abbrev taken : List AsmRow → List ℕ → List BinaryInstruction → Answer Accepted
 taken rows hs bs = ok (record { labels = length (labelRows 0 rows); program = bs; words = programWords bs; hosts = hs })
 
--- refusals 8 to 13 where the words fit
+-- refusals 8 to 13 and 25 where the words fit
 abbrev fitted : List ℕ → List AsmRow → List ℕ → ℕ → Answer Accepted
 fitted s rows prophets n = do
   hosts ← hostsOf s rows prophets
@@ -105,7 +107,7 @@ hosts-listed s rows k (x ∷ xs) hs e =
 
 -- ---- what is refused where nothing is short
 
--- with hosts enough nothing after 12 comes
+-- with hosts enough 13 does not come
 fitted-late : (s : List ℕ) (rows : List AsmRow) (prophets : List ℕ) (n : ℕ) → ((labels : List (List ℕ)) → listedLabels prophets ≡ ok labels → length labels ≤ n)
     → Late (fitted s rows prophets n)
 unfolding hostsOf listedLabels _>>=_ _>>_ refuseIf
@@ -119,14 +121,14 @@ fitted-late s rows prophets n k = go (hostsOf s rows prophets) refl
         le-ltb n (length hs) (omega arith)
 
     listed : Late (hostsOf s rows prophets)
-    listed = bind-late (listedLabels prophets) _ (if-late (ltb 16384 (length prophets)) 8 _ (omega arith) (omega arith) (head-late _)) λ labels. hosts-late s rows 0 labels
+    listed = bind-late (listedLabels prophets) _ (if-late (ltb 16384 (length prophets)) 8 _ (inl (omega arith, omega arith)) (head-late _)) λ labels. hosts-late s rows 0 labels
 
     go : (x : Answer (List ℕ)) → hostsOf s rows prophets ≡ x
         → Late (x >>= λ hs. canonicalProgram s rows >>= λ bs. (refuseAt (firstMisplaced 0 bs) 12 >> (refuseIf (ltb n (length hs)) 13 >> taken rows hs bs)))
-    go (refused m d) e = let w = listed m d e in no-late m d (w .0) (w .1)
+    go (refused m d) e = no-late m d (listed m d e)
     go (ok hs) e =
         bind-late (canonicalProgram s rows) _ (program-late (namesOf s rows) 0 (instructions rows))
-        λ bs. at-late (firstMisplaced 0 bs) 12 _ (omega arith) (omega arith) (rw (few hs e) (ok-late _))
+        λ bs. at-late (firstMisplaced 0 bs) 12 _ (inl (omega arith, omega arith)) (rw (few hs e) (ok-late _))
 
 -- ---- lending as much as was told
 
@@ -155,7 +157,7 @@ module _ (s prophets : List ℕ) (room : Room) (f : RoomFigures) (e : roomOf s �
     room-enough = fits room k l ∙ sym (fits (record { entries = f .labels; words = f .words; hosts = room .hosts }) (omega arith) (omega arith))
 
     pub room-late : ((labels : List (List ℕ)) → listedLabels prophets ≡ ok labels → length labels ≤ room .hosts)
-        → (n d : ℕ) → assembled s prophets room ≡ refused n d → (8 ≤ n) × (n ≤ 12)
+        → (n d : ℕ) → assembled s prophets room ≡ refused n d → ((8 ≤ n) × (n ≤ 12)) ⊎ (n ≡ 25)
     room-late m n d h = fitted-late s (of-figures .0) prophets (room .hosts) m n d (sym (fits room k l) ∙ h)
 
 module _ (s prophets : List ℕ) (room : Room) where

@@ -94,7 +94,8 @@ cases =
     ∷ words (bytes "main:\nmov r1 psp") (0x0000000208000000 ∷ [])
     ∷ words (bytes "main:\nmload r1 [r2]") (0x4040000200400000 ∷ 0x0 ∷ [])
     ∷ words (bytes "main:\nmload r1 [r2,r3]") (0x0040200200400000 ∷ 0x1 ∷ [])
-    ∷ words (bytes "main:\nmov r1 [r2]\n.LBL1_1:\njmp .LBL1_1") (0x0000000208000000 ∷ 0x4000000004000000 ∷ 2 ∷ [])
+    -- 02, Point 6: "01's case with `mov r1 [r2]` becomes a refusal"
+    ∷ refusal (bytes "main:\nmov r1 [r2]\n.LBL1_1:\njmp .LBL1_1") 25 0
     ∷ reads (bytes "0x4000000001000000\n10") (made CALL Empty (aNumber 10) Empty ∷ [])
     ∷ reads (bytes "0x4000000001000000") []
     ∷ reads (bytes "0x0000000600800000") (made RET Empty Empty (RegisterOperand R1) ∷ [])

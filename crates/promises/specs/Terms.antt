@@ -1,11 +1,10 @@
--- The words of the promises: the same program, where names stand, which prophets are kept, and rows by lines.
-use Prim.Native.Nat.{ℕ, _%_}
+-- The words of the promises: the same program, the position of an instruction, which prophets are kept, and rows by lines.
+use Prim.Native.Nat.{ℕ, zero, suc, _%_}
 use mathlib.Core.Path.{_≡_}
-use mathlib.Core.List.{List, [], _∷_, map, List·Memᴰ}
-use mathlib.Core.Bool.{Bool, true, false, not, _&&_, _||_}
+use mathlib.Core.List.{List, map, List·Memᴰ}
 use mathlib.Core.Option.{some}
 use lib.Dec.{ltb}
-use lib.ListN.{length}
+use lib.ListN.{length, getElem?}
 use Rattle.text.specs.Answer.{Answer, _>>_, refuseIf, refuseAt}
 use Rattle.vm_hardware.specs.declared.Place.{Place}
 use Rattle.vm_hardware.specs.declared.Place.the-variants.{Op0, Op1, Dst}
@@ -16,16 +15,16 @@ use Rattle.vm_operands.specs.declared.OlaOperand.the-variants.{Empty, Immediate
 use Rattle.asm.specs.Parts.{rowPieces, placedLines}
 use Rattle.asm.specs.Rows.{readRows}
 use Rattle.asm.specs.declared.OlaAsmOperand.{OlaAsmOperand}
-use Rattle.asm.specs.declared.OlaAsmOperand.the-variants.{Empty as NoOperand, ImmediateOperand as ANumber, RegisterOperand as ARegister, RegisterWithOffset as AnOffset, RegisterWithFactoredRegOffset as AFactor, SpecialReg as ASpecial, Label, Identifier}
 use Rattle.asm.specs.declared.OlaAsmInstruction.{OlaAsmInstruction}
 use Rattle.asm.specs.declared.AsmRow.{AsmRow}
 use Rattle.relocate.specs.Labels.{LabelRow}
 use Rattle.relocate.specs.Prophets.{keptFrom}
 use Rattle.relocate.specs.Relocate.{firstAbove127}
-use Rattle.program.specs.Instructions.{made, aNumber, isMemory}
-use Rattle.program.specs.Words.{wordsBefore}
+use Rattle.program.specs.Instructions.{made, aNumber}
+use Rattle.program.specs.Words.{firstWord, wordsBefore}
 use Rattle.program.specs.declared.BinaryInstruction.{BinaryInstruction}
 use Rattle.encoder.specs.Canonical.{Names, holderOf}
+use Rattle.encoder.specs.Assemble.{Accepted}
 
 -- ---- the same program: "one by one the same operation, the same contents or emptiness of each place, and numbers equal modulo p"
 
@@ -49,24 +48,6 @@ SameProgram is js = map instructionResidue is ≡ map instructionResidue js
 
 -- ---- names in operands
 
-abbrev pub isBracketed : OlaAsmOperand → Bool
-isBracketed NoOperand = false
-isBracketed (ANumber v) = false
-isBracketed (ARegister r) = false
-isBracketed (AnOffset r v) = true
-isBracketed (AFactor r t v) = true
-isBracketed (ASpecial t) = false
-isBracketed (Label start n) = false
-isBracketed (Identifier start n) = false
-
--- "no bracketed operand stands outside mload and mstore"
-abbrev pub isClean : OlaAsmInstruction → Bool
-isClean i = isMemory (i .opcode) || not (isBracketed (i .op0) || isBracketed (i .op1) || isBracketed (i .dst))
-
-unfoldable pub allClean : List OlaAsmInstruction → Bool
-allClean [] = true
-allClean (i ∷ is) = isClean i && allClean is
-
 -- what stands in a place of a row, and of an instruction
 abbrev pub operandAt : Place → OlaAsmInstruction → OlaAsmOperand
 operandAt Op0 i = i .op0
@@ -78,11 +59,26 @@ contentAt Op0 i = i .op0
 contentAt Op1 i = i .op1
 contentAt Dst i = i .dst
 
+-- ---- positions
+
+-- instruction n of an accepted source is there, and its first word stands where the words before it end
+abbrev pub Stands : Accepted → ℕ → Type 0
+Stands a n = (j : BinaryInstruction) × (getElem? (a .program) n ≡ some j) × (getElem? (a .words) (wordsBefore (a .program) n) ≡ some (firstWord j))
+
+-- an address that is the position of instruction n
+abbrev pub IsPosition : Accepted → ℕ → ℕ → Type 0
+IsPosition a n address = (address ≡ wordsBefore (a .program) n) × Stands a n
+
+-- or that of the instruction before it, 0 where it is the first
+abbrev pub IsPositionBefore : Accepted → ℕ → ℕ → Type 0
+IsPositionBefore a zero address = address ≡ 0
+IsPositionBefore a (suc n) address = IsPosition a n address
+
 -- "the count of words before the instruction marked by the row that holds its name": the row of a kind that holds the name at a place of the
--- source, and a content that is that count
-abbrev pub HoldsCount : Names → List BinaryInstruction → ℕ → ℕ → ℕ → OlaOperand → Type 0
-HoldsCount names program kind start n content =
-    (l : LabelRow) × (holderOf names kind start n ≡ some l) × (content ≡ aNumber (wordsBefore program (l .marks)))
+-- source, a content that is that count, and the instruction there
+abbrev pub HoldsPosition : Names → Accepted → ℕ → ℕ → ℕ → OlaOperand → Type 0
+HoldsPosition names a kind start n content =
+    (l : LabelRow) × (holderOf names kind start n ≡ some l) × (content ≡ aNumber (wordsBefore (a .program) (l .marks))) × Stands a (l .marks)
 
 -- ---- prophets
 

@@ -31,7 +31,7 @@ foundBy f (some l) = At (record { 0 = f l })
 foundBy f none = Nothing
 
 -- the rows that have a name are mapped and of its kind
-names-told : (s : List ℕ) (kind : ℕ) (x : List ℕ) (l : LabelRow) → names s kind x l ≡ true → (l .mapped ≡ true) × (eqb (l .kind) kind ≡ true)
+pub names-told : (s : List ℕ) (kind : ℕ) (x : List ℕ) (l : LabelRow) → names s kind x l ≡ true → (l .mapped ≡ true) × (eqb (l .kind) kind ≡ true)
 names-told s kind x l h = go (l .mapped) (eqb (l .kind) kind) (same (nameAt s (l .start) (l .length)) x) h
   where
     go : (a b c : Bool) → a && b && c ≡ true → (a ≡ true) × (b ≡ true)

@@ -1,4 +1,5 @@
 pub mod ColumnLaws
+pub mod MarkLaws
 pub mod CutLaws
 pub mod LengthLaws
 pub mod ScopeLaws

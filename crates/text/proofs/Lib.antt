@@ -1,4 +1,5 @@
 pub mod AllLaws
+pub mod EntryLaws
 pub mod AnswerLaws
 pub mod SumLaws
 pub mod Laws

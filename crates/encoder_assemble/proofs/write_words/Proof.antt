@@ -63,6 +63,15 @@ loop-less-4 c = search write-laws
 loop-again-4 : tie.Need-loop-again-4 Inv-loop μ-loop
 loop-again-4 c = (search write-laws, search write-laws, search write-laws)
 
+enum-told-4 : tie.Need-enum-told-4 Inv-loop μ-loop
+enum-told-4 c = search write-laws
+
+loop-less-5 : tie.Need-loop-less-5 Inv-loop μ-loop
+loop-less-5 c = search write-laws
+
+loop-again-5 : tie.Need-loop-again-5 Inv-loop μ-loop
+loop-again-5 c = (search write-laws, search write-laws, search write-laws)
+
 same-length : tie.Need-same-length Inv-loop μ-loop
 same-length c = search write-laws
 
@@ -90,5 +99,8 @@ write-words-spec =
     enum-told-3
     loop-less-4
     loop-again-4
+    enum-told-4
+    loop-less-5
+    loop-again-5
     same-length
     returns)

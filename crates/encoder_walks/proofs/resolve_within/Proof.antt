@@ -66,11 +66,20 @@ new-requires-2 c κs = search passed-laws
 returns-2 : tie.Need-returns-2 Inv-loop μ-loop
 returns-2 c = search passed-laws
 
-all-placed-requires : tie.Need-all-placed-requires Inv-loop μ-loop
-all-placed-requires c κs = search passed-laws
+enum-told-4 : tie.Need-enum-told-4 Inv-loop μ-loop
+enum-told-4 c = search passed-laws
+
+new-requires-3 : tie.Need-new-requires-3 Inv-loop μ-loop
+new-requires-3 c κs = search passed-laws
 
 returns-3 : tie.Need-returns-3 Inv-loop μ-loop
 returns-3 c = search passed-laws
+
+all-placed-requires : tie.Need-all-placed-requires Inv-loop μ-loop
+all-placed-requires c κs = search passed-laws
+
+returns-4 : tie.Need-returns-4 Inv-loop μ-loop
+returns-4 c = search passed-laws
 
 pub resolve-within-spec : {M : Type 1} → statement M
 resolve-within-spec =
@@ -94,5 +103,8 @@ resolve-within-spec =
     enum-told-3
     new-requires-2
     returns-2
+    enum-told-4
+    new-requires-3
+    returns-3
     all-placed-requires
-    returns-3)
+    returns-4)
