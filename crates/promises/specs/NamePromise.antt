@@ -52,9 +52,12 @@ module _ (s prophets : List ℕ) (room : Room) (a : Accepted) (h : assembled s p
   -- instruction n of the program, where it has one, stands where the words before it end
   stands : (n : ℕ) → n < length (a .program) → Stands a n
   stands n l =
-      let j = at-below (a .program) n l in
-      (j .0, j .1, ap (λ (ws : List ℕ). getElem? ws (wordsBefore (a .program) n)) (accepted-words s prophets room a h)
-      ∙ first-there (a .program) (accepted-form s prophets room a h) n (j .0) (j .1))
+      let j = at-below (a .program) n l in (
+        j .0,
+        j .1,
+        ap (λ (ws : List ℕ). getElem? ws (wordsBefore (a .program) n)) (accepted-words s prophets room a h)
+            ∙ first-there (a .program) (accepted-form s prophets room a h) n (j .0) (j .1),
+      )
 
   module _ (rows : List AsmRow) (e : sortedOf s ≡ ok rows) where
     -- every row counts as many words as its instruction has
@@ -83,11 +86,14 @@ module _ (s prophets : List ℕ) (room : Room) (a : Accepted) (h : assembled s p
     names-counted k i g =
         let x =
         names-are-word-counts s rows (a .program) (of-rows rows e) (accepted-rows s prophets room a h .placed)
-        (accepted-shaped s prophets room a h rows e) k i g in
-        (x .0, x .1, λ place start n. (
-          λ f. there callKind start n (contentAt place (x .0)) (x .2 place start n .0 f),
-          λ f. there jmpKind start n (contentAt place (x .0)) (x .2 place start n .1 f),
-        ))
+        (accepted-shaped s prophets room a h rows e) k i g in (
+          x .0,
+          x .1,
+          λ place start n. (
+            λ f. there callKind start n (contentAt place (x .0)) (x .2 place start n .0 f),
+            λ f. there jmpKind start n (contentAt place (x .0)) (x .2 place start n .1 f),
+          ),
+        )
 
     -- ---- the label table
 

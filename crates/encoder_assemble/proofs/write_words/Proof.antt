@@ -24,8 +24,11 @@ loop-holds c = (search write-laws, search write-laws, search write-laws)
 canonical-at-requires : tie.Need-canonical-at-requires Inv-loop μ-loop
 canonical-at-requires c κs = search write-laws
 
-enum-told : tie.Need-enum-told Inv-loop μ-loop
-enum-told c = search write-laws
+enum-known-found : tie.Need-enum-known-found Inv-loop μ-loop
+enum-known-found c = search write-laws
+
+put-words-requires : tie.Need-put-words-requires Inv-loop μ-loop
+put-words-requires c κs = search write-laws
 
 loop-less : tie.Need-loop-less Inv-loop μ-loop
 loop-less c = search write-laws
@@ -33,44 +36,11 @@ loop-less c = search write-laws
 loop-again : tie.Need-loop-again Inv-loop μ-loop
 loop-again c = (search write-laws, search write-laws, search write-laws)
 
-enum-known-found : tie.Need-enum-known-found Inv-loop μ-loop
-enum-known-found c = search write-laws
-
-put-words-requires : tie.Need-put-words-requires Inv-loop μ-loop
-put-words-requires c κs = search write-laws
-
 loop-less-2 : tie.Need-loop-less-2 Inv-loop μ-loop
 loop-less-2 c = search write-laws
 
 loop-again-2 : tie.Need-loop-again-2 Inv-loop μ-loop
 loop-again-2 c = (search write-laws, search write-laws, search write-laws)
-
-enum-told-2 : tie.Need-enum-told-2 Inv-loop μ-loop
-enum-told-2 c = search write-laws
-
-loop-less-3 : tie.Need-loop-less-3 Inv-loop μ-loop
-loop-less-3 c = search write-laws
-
-loop-again-3 : tie.Need-loop-again-3 Inv-loop μ-loop
-loop-again-3 c = (search write-laws, search write-laws, search write-laws)
-
-enum-told-3 : tie.Need-enum-told-3 Inv-loop μ-loop
-enum-told-3 c = search write-laws
-
-loop-less-4 : tie.Need-loop-less-4 Inv-loop μ-loop
-loop-less-4 c = search write-laws
-
-loop-again-4 : tie.Need-loop-again-4 Inv-loop μ-loop
-loop-again-4 c = (search write-laws, search write-laws, search write-laws)
-
-enum-told-4 : tie.Need-enum-told-4 Inv-loop μ-loop
-enum-told-4 c = search write-laws
-
-loop-less-5 : tie.Need-loop-less-5 Inv-loop μ-loop
-loop-less-5 c = search write-laws
-
-loop-again-5 : tie.Need-loop-again-5 Inv-loop μ-loop
-loop-again-5 c = (search write-laws, search write-laws, search write-laws)
 
 same-length : tie.Need-same-length Inv-loop μ-loop
 same-length c = search write-laws
@@ -86,21 +56,11 @@ write-words-spec =
     μ-loop
     loop-holds
     canonical-at-requires
-    enum-told
-    loop-less
-    loop-again
     enum-known-found
     put-words-requires
+    loop-less
+    loop-again
     loop-less-2
     loop-again-2
-    enum-told-2
-    loop-less-3
-    loop-again-3
-    enum-told-3
-    loop-less-4
-    loop-again-4
-    enum-told-4
-    loop-less-5
-    loop-again-5
     same-length
     returns)
