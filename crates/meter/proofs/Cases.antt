@@ -60,8 +60,9 @@ cases =
     ∷ (5, into jump 0 9, refused 7 0, 5)
     ∷ (5, plain [], refused 4 0, 5)
     ∷ (5, plain (bytes "main:\njmp g"), refused 10 0, 5)
-    -- the words that are emitted, not the counted length, which is 2
-    ∷ (0, plain (bytes "main:\nmov r1 [r2]"), counts 1 1 0 0, 1)
+    -- 02's Point 6: nothing is added, whatever the counted length, which is 2
+    ∷ (0, plain (bytes "main:\nmov r1 [r2]"), refused 25 0, 0)
+    ∷ (5, plain (bytes "main:\nmov r1 [r2]"), refused 25 0, 5)
     -- neither hosts nor label rows count
     ∷ (0, listed (bytes "main:\n.PROPHET0_0:\nret") (bytes "label\n.PROPHET0_0\n.PROPHET0_0"), counts 2 1 2 1, 1)
     -- "stops there", and nothing is refused for it: a sum just below it, one just at it, and sums past it
