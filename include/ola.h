@@ -3,7 +3,7 @@
  * Every function but ola_version, ola_label_name and ola_meter_open answers a struct whose first field is a refusal (of ola_meter_build the first field of
  * its assembly): 0 means accepted, 1 to 25 are the refusals of the scope document and of the requests after it, 255, which is this interface's own, an
  * instruction whose numbers name none. On refusal every other field but the detail is 0 (a step's line stays where it was, and a meter is the one that was
- * given, not zero), and what was lent is as it was, but that refusals above 7 of assembling, 25 too and on a meter too, leave the label table filled.
+ * given, not zero), and what was lent is as it was, but that refusals above 7 of assembling, on a meter too, leave the label table filled.
  *
  * What a caller owes, and no function can test:
  *  - each pointer points to as many elements as the length after it says, aligned as their type is; all of them may be read, and written where
