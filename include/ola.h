@@ -1,9 +1,9 @@
 /* The Ola assembler and bytecode reader for C and other languages: target/staticlib/libola_c.a, which `rt staticlib ola_c` writes.
  *
  * Every function but ola_version, ola_label_name and ola_meter_open answers a struct whose first field is a refusal (of ola_meter_build the first field of
- * its assembly): 0 means accepted, 1 to 24 are the refusals of the scope document, 255, which is this interface's own, an instruction whose numbers name
- * none. On refusal every other field but the detail is 0 (a step's line stays where it was, and a meter is the one that was given, not zero), and what was
- * lent is as it was, but that refusals above 7 of assembling, on a meter too, leave the label table filled.
+ * its assembly): 0 means accepted, 1 to 25 are the refusals of the scope document and of the requests after it, 255, which is this interface's own, an
+ * instruction whose numbers name none. On refusal every other field but the detail is 0 (a step's line stays where it was, and a meter is the one that was
+ * given, not zero), and what was lent is as it was, but that refusals above 7 of assembling, on a meter too, leave the label table filled.
  *
  * What a caller owes, and no function can test:
  *  - each pointer points to as many elements as the length after it says, aligned as their type is; all of them may be read, and written where
@@ -42,7 +42,7 @@ uint64_t ola_version(void);
 #define OLA_STACK_OTHER 8192
 
 /* An entry of the label table. Kind: 0 call, 1 .LBL, 2 prophet. Start and length: the name's place in the source, without its colon. Address:
-   what the row marks (a prophet label's host); unmapped: address 0. */
+   what the row marks (a prophet label's host), in an accepted source the position of that instruction's first word; unmapped: address 0. */
 typedef struct { uint8_t kind; bool mapped; size_t start, length; uint64_t address; } ola_label;
 
 /* What assembling answers: how many table entries, words and hosts were written, and how many prophets are kept. */
@@ -54,7 +54,7 @@ typedef struct { uint64_t total; } ola_meter;
 /* What a build on a meter answers: what assembling answers, and the meter after it. */
 typedef struct { ola_assembly assembly; ola_meter meter; } ola_metered;
 
-/* What a source takes: its label rows, instructions, counted length and words. */
+/* What a source takes: its label rows, instructions, counted length and words. Of an accepted source the last two are one number. */
 typedef struct { uint64_t refusal, detail, labels, instructions, counted, words; } ola_room;
 
 /* What writing a text answers: how many bytes were written. */
@@ -85,13 +85,13 @@ typedef struct { size_t start, length; } ola_name;
    later refusal turns away, too. It takes less than OLA_STACK_OTHER of stack. */
 ola_room ola_room_of(const uint8_t *source, size_t source_len);
 
-/* Assembles a source with a prophet list into a table of entries, words and hosts. Refusals 1 to 13. Each `mapped` of the table is 0 or 1 before
-   the call, a fresh table's too: a table that was never initialised is the caller's fault. */
+/* Assembles a source with a prophet list into a table of entries, words and hosts. Refusals 1 to 13 and 25, which is asked with 10 and 11, before 12. Each
+   `mapped` of the table is 0 or 1 before the call, a fresh table's too: a table that was never initialised is the caller's fault. */
 ola_assembly ola_assemble(const uint8_t *source, size_t source_len, const uint8_t *prophets, size_t prophets_len,
                           ola_label *table, size_t table_len, uint64_t *words, size_t words_len, uint64_t *hosts, size_t hosts_len);
 
-/* The same with the table as five arrays; 7 where the shortest of them is shorter than the label rows. Each `mapped` of the table is 0 or 1 before
-   the call, a fresh table's too: a table that was never initialised is the caller's fault. */
+/* The same with the table as five arrays; 7 where the shortest of them is shorter than the label rows. Refusals 1 to 13 and 25. Each `mapped` of the table is
+   0 or 1 before the call, a fresh table's too: a table that was never initialised is the caller's fault. */
 ola_assembly ola_assemble_parts(const uint8_t *source, size_t source_len, const uint8_t *prophets, size_t prophets_len,
                           uint8_t *kinds, size_t kinds_len, bool *mapped, size_t mapped_len, size_t *starts, size_t starts_len,
                           size_t *lengths, size_t lengths_len, uint64_t *addresses, size_t addresses_len,
@@ -100,10 +100,10 @@ ola_assembly ola_assemble_parts(const uint8_t *source, size_t source_len, const 
 /* A meter at its start. */
 ola_meter ola_meter_open(void);
 
-/* Assembles as ola_assemble_parts does, and counts the words of an accepted build. Refusals 1 to 13. Each build takes the meter that the last one answered:
-   a meter is a number of the caller's, and the library keeps none. So two builds on one meter, from two threads too, count one, and what ola_assemble
-   and ola_assemble_parts build no meter counts. At 2^64 - 1 a build is accepted as ever, and the meter stays there. Any meter may be given, one that
-   ola_meter_open never answered too. */
+/* Assembles as ola_assemble_parts does, and counts the words of an accepted build. Refusals 1 to 13 and 25. Each build takes the meter that the last one
+   answered: a meter is a number of the caller's, and the library keeps none. So two builds on one meter, from two threads too, count one, and what
+   ola_assemble and ola_assemble_parts build no meter counts. At 2^64 - 1 a build is accepted as ever, and the meter stays there. Any meter may be given, one
+   that ola_meter_open never answered too. */
 ola_metered ola_meter_build(ola_meter meter, const uint8_t *source, size_t source_len, const uint8_t *prophets, size_t prophets_len,
                           uint8_t *kinds, size_t kinds_len, bool *mapped, size_t mapped_len, size_t *starts, size_t starts_len,
                           size_t *lengths, size_t lengths_len, uint64_t *addresses, size_t addresses_len,

@@ -147,6 +147,8 @@ static void assembling(void)
     declines("assemble_parts: 12 for a number in op0", "main:\nadd r1 5 r2", "", ENTRIES, WORDS, HOSTS, 12, 0);
     declines("assemble_parts: 13 for few word entries", SOURCE, "", ENTRIES, 5, HOSTS, 13, 0);
     declines("assemble_parts: 13 for few host entries", SOURCE, "label\n.PROPHET0_0", ENTRIES, WORDS, 0, 13, 0);
+    declines("assemble_parts: 25 with the instruction's index for brackets outside mload and mstore", "main:\nend\nmov r1 [r2]", "", ENTRIES, WORDS, HOSTS,
+             25, 1);
 
     static char long_source[65537];
     memset(long_source, ' ', sizeof long_source);
@@ -335,7 +337,7 @@ static const uint64_t JUMP[2] = { UINT64_C(0x4000000004000000), 5 };
 
 static void metering(void)
 {
-    static const uint64_t moved[1] = { UINT64_C(0x0000000208000000) }, returned[1] = { UINT64_C(0x0000000000800000) };
+    static const uint64_t returned[1] = { UINT64_C(0x0000000000800000) };
     static const ola_assembly alone = { .labels = 1 }, jump = { .labels = 1, .words = 2 }, printing = { .labels = 3, .words = 6, .hosts = 1, .kept = 1 };
     const char *listed = "label\n.PROPHET0_0";
 
@@ -344,8 +346,6 @@ static void metering(void)
     meters("meter_build: main alone adds 0 to 7", 7, "main:", "", alone, NULL, 7);
     meters("meter_build: jmp 5 adds 2 to 0", 0, JUMP_SOURCE, "", jump, JUMP, 2);
     meters("meter_build: jmp 5 adds 2 to 7", 7, JUMP_SOURCE, "", jump, JUMP, 9);
-    meters("meter_build: mov r1 [r2] adds the one word that is written, not the counted length of 2", 0, "main:\nmov r1 [r2]", "",
-           (ola_assembly){ .labels = 1, .words = 1 }, moved, 1);
     meters("meter_build: a prophet that is listed twice has two hosts, and they are not counted", 0, "main:\n.PROPHET0_0:\nret",
            "label\n.PROPHET0_0\n.PROPHET0_0", (ola_assembly){ .labels = 2, .words = 1, .hosts = 2, .kept = 1 }, returned, 1);
     meters("meter_build: the printing source adds 6", 0, SOURCE, listed, printing, PRINTED, 6);
@@ -376,6 +376,7 @@ static void metering(void)
     meters_none("meter_build: 12 for a number in op0", "main:\nadd r1 5 r2", "", ENTRIES, WORDS, HOSTS, 12, 0);
     meters_none("meter_build: 13 for one word entry of two", JUMP_SOURCE, "", ENTRIES, 1, HOSTS, 13, 0);
     meters_none("meter_build: 13 for few host entries", SOURCE, listed, ENTRIES, WORDS, 0, 13, 0);
+    meters_none("meter_build: 25 for mov r1 [r2], which adds neither a word nor its counted length", "main:\nmov r1 [r2]", "", ENTRIES, WORDS, HOSTS, 25, 0);
 }
 
 /* Builds one after another: each takes the meter that the last one answered. */
@@ -385,6 +386,7 @@ static void metering_a_history(void)
         { SOURCE, 0, 6, 6 },
         { "main:\njmp g", 10, 0, 6 },
         { "main:", 0, 0, 6 },
+        { "main:\nmov r1 [r2]", 25, 0, 6 },
         { SOURCE, 0, 6, 12 },
     };
     ola_meter meter = ola_meter_open();
@@ -396,7 +398,7 @@ static void metering_a_history(void)
                 && m.meter.total == history[i].total;
         meter = m.meter;
     }
-    say("meter_build: the printing source, 10, main alone and the printing source: 12 words", right && meter.total == 12);
+    say("meter_build: the printing source, 10, main alone, 25 and the printing source: 12 words", right && meter.total == 12);
     say("meter_open: after builds, a total of 0", ola_meter_open().total == 0);
 
     ola_metered first = build(meter, JUMP_SOURCE, "", ENTRIES, WORDS, HOSTS), second = build(meter, JUMP_SOURCE, "", ENTRIES, WORDS, HOSTS);
@@ -453,22 +455,35 @@ static void spelt(const char *row, const char *decimal, uint64_t first, uint64_t
     say(what, right && left_so(&left));
 }
 
-/* A source that every call which takes one refuses with 3, so that nothing is written and no meter moves. */
-static int unreadable(const char *source, uint64_t detail)
+/* A source that every call which builds refuses so: no meter moves, words and hosts are untouched, and the table has so many entries, these, and is untouched
+   behind them. */
+static int turned_away(const char *source, const char *prophets, size_t entries, size_t word_room, uint64_t refusal, uint64_t detail,
+                       const ola_label *filled, size_t count)
 {
     static ola_label table[ENTRIES];
     const ola_label mark = { .kind = MARK, .mapped = false, .start = MARK, .length = MARK, .address = MARK };
-    const ola_assembly told = { .refusal = 3, .detail = detail };
-    int right = builds(0, source, "", ENTRIES, WORDS, HOSTS, told, NULL, 0) && builds(12, source, "", ENTRIES, WORDS, HOSTS, told, NULL, 12)
-                && room_is(ola_room_of(bytes(source), strlen(source)), 3, detail, 0, 0, 0, 0);
+    const ola_assembly told = { .refusal = refusal, .detail = detail };
+    int right = builds(0, source, prophets, entries, word_room, HOSTS, told, NULL, 0)
+                && builds(12, source, prophets, entries, word_room, HOSTS, told, NULL, 12);
+    clear();
+    right = right && same_assembly(parts(source, strlen(source), prophets, entries, word_room, HOSTS), told) && untouched(kinds + count, sizeof kinds - count)
+            && untouched(addresses + count, sizeof addresses - count * sizeof addresses[0]);
+    for (size_t i = 0; i < count; i++)
+        right = right && same_entry(entry_at(i), filled[i]);
     clear();
     for (size_t i = 0; i < ENTRIES; i++)
         table[i] = mark;
-    ola_assembly a = ola_assemble(bytes(source), strlen(source), bytes(""), 0, table, ENTRIES, words, WORDS, hosts, HOSTS);
+    ola_assembly a = ola_assemble(bytes(source), strlen(source), bytes(prophets), strlen(prophets), table, entries, words, word_room, hosts, HOSTS);
     right = right && same_assembly(a, told) && untouched(words, sizeof words) && untouched(hosts, sizeof hosts);
     for (size_t i = 0; i < ENTRIES; i++)
-        right = right && same_entry(table[i], mark);
+        right = right && same_entry(table[i], i < count ? filled[i] : mark);
     return right;
+}
+
+/* A source that every call which takes one refuses with 3, so that nothing is written and no meter moves. */
+static int unreadable(const char *source, uint64_t detail)
+{
+    return turned_away(source, "", ENTRIES, WORDS, 3, detail, NULL, 0) && room_is(ola_room_of(bytes(source), strlen(source)), 3, detail, 0, 0, 0, 0);
 }
 
 /* What is no number, alone and in brackets. */
@@ -560,6 +575,79 @@ static void pasting(void)
     say("0x: each line of the printing source's bytecode, pasted into a row, is its word", right);
     static const char listed[] = "main:\nmov r1 0xffffffff00000000\ncall 0x5\nend\nret";
     meters("0x: the printing source's listing after main has its words", 0, listed, "", (ola_assembly){ .labels = 1, .words = 6 }, PRINTED, 6);
+}
+
+/* ---- document 02, Point 6 */
+
+/* Rows after `main:`. A refusal above 7 leaves main's entry in the table. */
+static void brackets(void)
+{
+    static const struct { const char *what, *rows; uint64_t refusal, detail; } cases[] = {
+        { "brackets: 25 for mov r1 [r2]", "mov r1 [r2]", 25, 0 },
+        { "brackets: 25 for [r2,r3] in op1", "not r1 [r2,r3]", 25, 0 },
+        { "brackets: 25 for [r2,r3,5] in op0", "cjmp [r2,r3,5] r1", 25, 0 },
+        { "brackets: 25 in dst too", "mov [r1] r2", 25, 0 },
+        { "brackets: 25 for jmp [r2,5]", "jmp [r2,5]", 25, 0 },
+        { "brackets: 25 with a hexadecimal number", "jmp [r2,0x5]", 25, 0 },
+        { "brackets: 25 before an unknown name in op0 of the same row", "add r1 g [r2]", 25, 0 },
+        { "brackets: 10 for an unknown name in a row before", "jmp g\nmov r1 [r2]", 10, 0 },
+        { "brackets: 25 before an unknown name in a later row", "mov r1 [r2]\njmp g", 25, 0 },
+        { "brackets: 11 for mload from a register in a row before", "mload r1 r2\nmov r1 [r2]", 11, 0 },
+        { "brackets: 25 before mload from a register in a later row", "mov r1 [r2]\nmload r1 r2", 25, 0 },
+        { "brackets: 11 for mstore of what stands in brackets", "mstore [r1] [r2]", 11, 0 },
+        { "brackets: 11 for mload into what stands in brackets", "mload [r1] [r2]", 11, 0 },
+        { "brackets: 25 before 12 in a row before", "mov 5 r1\nmov r1 [r2]", 25, 1 },
+        { "brackets: 25 before 12 in the same row", "add [r1] 5 6", 25, 0 },
+        { "brackets: 3 for one bracket without the other", "mov r1 [r2", 3, 1 },
+        { "brackets: 3 for no digit in them", "jmp [r2,0x]", 3, 1 },
+    };
+    for (size_t i = 0; i < sizeof cases / sizeof cases[0]; i++)
+        say(cases[i].what, turned_away(after_main(cases[i].rows), "", ENTRIES, WORDS, cases[i].refusal, cases[i].detail, &MAIN_ROW, cases[i].refusal > 7));
+
+    const char *source = "main:\nmov r1 [r2]";
+    say("brackets: 25 with no word entry, not 13", turned_away(source, "", ENTRIES, 0, 25, 0, &MAIN_ROW, 1));
+    say("brackets: 7 with no table entry", turned_away(source, "", 0, WORDS, 7, 0, NULL, 0));
+    say("brackets: 8 for another first line", turned_away(source, "x", ENTRIES, WORDS, 8, 0, &MAIN_ROW, 1));
+    say("brackets: 9 for an unknown prophet", turned_away(source, "label\n.PROPHET0_0", ENTRIES, WORDS, 9, 0, &MAIN_ROW, 1));
+
+    /* Sorted, main's instruction goes first; f's row, which stands first in the source, marks the one at 1. */
+    static const ola_label sorted[2] = {
+        { .kind = 0, .mapped = true, .start = 15, .length = 4, .address = 0 },
+        { .kind = 0, .mapped = true, .start = 0, .length = 1, .address = 1 },
+    };
+    say("brackets: 25 with the index in sorted order", turned_away("f:\nmov r1 [r2]\nmain:\nend", "", ENTRIES, WORDS, 25, 1, sorted, 2));
+}
+
+/* Document 01's case of a label behind mov r1 [r2], and the same behind rows that are accepted: the jump's number, and the address in the table, are the
+   position of the jump's first word. */
+static void positions(void)
+{
+    static const char refused[] = "main:\nmov r1 [r2]\n.LBL1_1:\njmp .LBL1_1";
+    static const ola_label counted[2] = {
+        { .kind = 0, .mapped = true, .start = 0, .length = 4, .address = 0 },
+        { .kind = 1, .mapped = true, .start = 18, .length = 7, .address = 2 },
+    };
+    say("brackets: document 01's case is 25, its table filled by counted lengths", turned_away(refused, "", ENTRIES, WORDS, 25, 0, counted, 2));
+    takes("room_of: its figures, counted length 4 and 3 words", refused, 2, 2, 4, 3);
+    takes("room_of: two brackets count two and take no word", "main:\nadd r1 [r2] [r3]", 1, 1, 3, 1);
+    takes("room_of: brackets in dst count nothing", "main:\nmov [r1] r2", 1, 1, 1, 1);
+
+    static const struct { const char *what, *source; uint64_t words[4], count, position, start; } accepted[] = {
+        { "positions: a label behind mload r1 [r2] is 2", "main:\nmload r1 [r2]\n.LBL1_1:\njmp .LBL1_1",
+          { UINT64_C(0x4040000200400000), 0, UINT64_C(0x4000000004000000), 2 }, 4, 2, 20 },
+        { "positions: a label behind mov r1 psp is 1", "main:\nmov r1 psp\n.LBL1_1:\njmp .LBL1_1",
+          { UINT64_C(0x0000000208000000), UINT64_C(0x4000000004000000), 1 }, 3, 1, 17 },
+    };
+    for (size_t i = 0; i < sizeof accepted / sizeof accepted[0]; i++) {
+        const char *source = accepted[i].source;
+        const ola_assembly told = { .labels = 2, .words = accepted[i].count };
+        const ola_label label = { .kind = 1, .mapped = true, .start = accepted[i].start, .length = 7, .address = accepted[i].position };
+        clear();
+        say(accepted[i].what, builds(0, source, "", ENTRIES, WORDS, HOSTS, told, accepted[i].words, told.words)
+                              && same_entry(entry_at(0), MAIN_ROW) && same_entry(entry_at(1), label)
+                              && words[accepted[i].position] == UINT64_C(0x4000000004000000) && words[accepted[i].position + 1] == accepted[i].position);
+        takes("room_of: its counted length and its words are one number", source, 2, 2, told.words, told.words);
+    }
 }
 
 static void naming(void)
@@ -839,6 +927,8 @@ int main(void)
     metering_a_history();
     hexadecimal();
     pasting();
+    brackets();
+    positions();
     naming();
     writing_and_opening();
     reading();

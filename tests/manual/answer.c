@@ -1,7 +1,7 @@
 /* Answers calls of include/ola.h that tests/manual/check asks for, one a line on standard input, in words and numbers on standard output. Texts are
    hexadecimal, `-` where empty. Every lent buffer is filled with a mark first and has entries past its end; a line `fault` says what was touched that
-   should not be, and where the two forms of assembling, the room told and the build, a build on a meter and one without, or the two ways of reading on, do
-   not agree. */
+   should not be, where the two forms of assembling, the room told and the build, a build on a meter and one without, or the two ways of reading on, do not
+   agree, and where an address in an accepted source's table is no first word's position. */
 #include <inttypes.h>
 #include <stdio.h>
 #include <stdlib.h>
@@ -167,13 +167,28 @@ static int again(const struct build *b, size_t entries, size_t word_room)
     return same;
 }
 
+/* The position after an instruction of an accepted source whose first word is given. */
+static uint64_t behind(uint64_t position, uint64_t first)
+{
+    return position + (first & (1ull << 62 | 1ull << 22 | 1ull << 21) ? 2 : 1);
+}
+
 /* How many of an accepted source's words are first ones. */
 static uint64_t first_words(const uint64_t *words, uint64_t count)
 {
     uint64_t firsts = 0;
-    for (uint64_t i = 0; i < count; i += words[i] & (1ull << 62 | 1ull << 22 | 1ull << 21) ? 2 : 1)
+    for (uint64_t i = 0; i < count; i = behind(i, words[i]))
         firsts += 1;
     return firsts;
+}
+
+/* Whether one of them stands at a position. */
+static int is_first(const uint64_t *words, uint64_t count, uint64_t position)
+{
+    uint64_t i = 0;
+    while (i < count && i < position)
+        i = behind(i, words[i]);
+    return i < count && i == position;
 }
 
 /* What ola_room_of tells of the source, beside what assembling answered. */
@@ -190,7 +205,7 @@ static void beside_room(const struct build *b)
         printf("fault the figures' label rows are not those of the table\n");
         return;
     }
-    if (!a.refusal && (r.words != a.words || r.instructions != first_words(b->words, a.words) || r.words > r.counted))
+    if (!a.refusal && (r.words != a.words || r.instructions != first_words(b->words, a.words) || r.words != r.counted))
         printf("fault the figures are not those of the words\n");
     if (b->entries >= r.labels && b->word_room >= r.words && !again(b, r.labels, r.words))
         printf("fault with just so much room as the figures tell, assembling answers otherwise\n");
@@ -268,6 +283,9 @@ static void assemble(void)
         printf("fault refusal %" PRIu64 " filled the table\n", a.refusal);
     if (!a.refusal && a.labels != filled)
         printf("fault %" PRIu64 " entries told, %zu filled\n", a.labels, filled);
+    for (size_t i = 0; !a.refusal && i < filled; i++)
+        if (b.mapped[i] && !is_first(b.words, a.words, b.addresses[i]))
+            printf("fault no first word stands at %" PRIu64 ", the address of entry %zu\n", b.addresses[i], i);
     if (!again(&b, b.entries, b.word_room))
         printf("fault ola_assemble and ola_assemble_parts do not agree\n");
     beside_room(&b);

@@ -84,7 +84,7 @@ pub fn measure(source: &[u8], room: usize) -> Measured
 }
 
 // What a source takes, without building it: refusals 1 to 6, or its label rows, instructions, counted length and words.
-// Promises: room-is-built, words-within-counted, room-refused, room-suffices, room-never-short.
+// Promises: room-is-built, counted-is-words, room-refused, room-suffices, room-never-short.
 pub fn room_of(source: &[u8]) -> RoomFound
     ensures { λ r. ⌜ roomNumbered r ≡ roomOf (now (source .entry)) ⌝ }
 {
