@@ -1,4 +1,5 @@
 //! Cases drawn at random. A program is rows of pieces; how they are spelt is drawn apart.
+use crate::brackets;
 use crate::check::Case;
 use crate::lists::MNEMONICS;
 use crate::numbers::{decimal, number};
@@ -14,12 +15,12 @@ pub struct Generator {
 }
 
 pub const GENERATORS: [Generator; 13] = [
-    Generator { name: "scopes, labels and prophets", share: 18, draw: scopes },
-    Generator { name: "many names", share: 2, draw: many_names },
+    Generator { name: "scopes, labels and prophets", share: 21, draw: scopes },
+    Generator { name: "many names", share: 3, draw: many_names },
     Generator { name: "whitespace, line endings, comments, numbers", share: 15, draw: spelling },
     Generator { name: "any operand in any place", share: 4, draw: any_places },
-    Generator { name: "damaged sources", share: 20, draw: damaged_source },
-    Generator { name: "soup of bytes and pieces", share: 8, draw: soup },
+    Generator { name: "damaged sources", share: 17, draw: damaged_source },
+    Generator { name: "soup of bytes and pieces", share: 7, draw: soup },
     Generator { name: "two mains, bytes above 127, lists of another form", share: 3, draw: departures },
     Generator { name: "bytecode of written instructions", share: 8, draw: written_bytecode },
     Generator { name: "bytecode of random bits", share: 6, draw: random_bits },
@@ -36,16 +37,25 @@ pub const LARGE_EVERY: usize = 6_000;
 
 type Row = Vec<String>;
 
-/// How a program is drawn: with numbers near the bounds and odd spellings of them, and with rows that are refused.
+/// How a program is drawn: with numbers near the bounds and odd spellings of them, with rows that are refused, and with brackets outside mload and mstore.
 #[derive(Clone, Copy)]
 struct Manner {
     odd: bool,
     mistakes: bool,
+    brackets: bool,
 }
 
-const PLAIN: Manner = Manner { odd: false, mistakes: true };
-const ODD: Manner = Manner { odd: true, mistakes: true };
-const CLEAN: Manner = Manner { odd: false, mistakes: false };
+const PLAIN: Manner = Manner { odd: false, mistakes: true, brackets: true };
+const ODD: Manner = Manner { odd: true, mistakes: true, brackets: true };
+const CLEAN: Manner = Manner { odd: false, mistakes: false, brackets: false };
+
+impl Manner {
+    /// Of twenty programs that may have mistakes ten do, so that enough are accepted, and one of these has brackets outside mload and mstore.
+    fn drawn(self, r: &mut Random) -> Manner {
+        let n = r.below(20);
+        Manner { odd: self.odd, mistakes: self.mistakes && n < 10, brackets: self.brackets && n == 0 }
+    }
+}
 
 /// Names of call rows. Some no operand can name, as `0x5`, which is a number there.
 const CALLS: [&str; 15] = ["f", "g", "f", "h_2", "_x", "F", "__a1", "r1", "r10", "pc", "12", "0x5", "f.1", "main.1", "5LBL1_1"];
@@ -65,7 +75,7 @@ fn register(r: &mut Random) -> String {
     format!("r{}", r.below(10))
 }
 
-fn bracket(r: &mut Random, odd: bool) -> String {
+pub fn bracket(r: &mut Random, odd: bool) -> String {
     match r.below(4) {
         0 => format!("[{}]", register(r)),
         1 => format!("[{},{}]", register(r), register(r)),
@@ -81,7 +91,6 @@ fn value(r: &mut Random, calls: &[String], labels: &[String], manner: Manner) ->
         7..=11 => number(r, manner.odd),
         12..=14 if !labels.is_empty() => labels[r.below(labels.len())].clone(),
         15..=17 if !calls.is_empty() => calls[r.below(calls.len())].clone(),
-        18 if r.percent(30) => bracket(r, manner.odd),
         18 if manner.mistakes && r.percent(4) => r.one(&LIKE_LABELS).to_string(),
         18 if manner.mistakes && r.percent(6) => r.one(&UNREADABLE).to_string(),
         19 if r.percent(50) => r.one(&["pc", "psp"]).to_string(),
@@ -116,6 +125,7 @@ fn operation(r: &mut Random, calls: &[String], labels: &[String], manner: Manner
 
 /// Scopes in random order, each with label rows; names of rows that are there, and some that are not.
 fn program(r: &mut Random, most_scopes: usize, most_rows: usize, manner: Manner) -> (Vec<Row>, Vec<String>) {
+    let manner = manner.drawn(r);
     let mut scopes: Vec<Vec<Row>> = vec![];
     let (mut calls, mut labels, mut prophets) = (vec!["main".to_string()], vec![], vec![]);
     let others = r.below(most_scopes);
@@ -167,6 +177,9 @@ fn program(r: &mut Random, most_scopes: usize, most_rows: usize, manner: Manner)
         if row.is_empty() {
             *row = operation(r, &calls, &labels, manner);
         }
+    }
+    if manner.brackets {
+        brackets::put(r, &mut rows, manner.odd);
     }
     (rows, prophets)
 }
@@ -236,7 +249,7 @@ fn many_names(r: &mut Random) -> Case {
 /// A source of some thousand rows.
 pub fn large(r: &mut Random) -> Case {
     let (scopes, rows) = (2 + r.below(200), 2 + r.below(40));
-    let manner = if r.percent(80) { CLEAN } else { PLAIN };
+    let manner = if r.percent(80) { CLEAN } else { Manner { brackets: false, ..PLAIN } };
     let (rows, prophets) = program(r, scopes, rows, manner);
     let mut source = plainly(&rows);
     source.truncate(crate::paper::SOURCE_LIMIT + 1);

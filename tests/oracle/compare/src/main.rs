@@ -2,7 +2,8 @@
 //! instructions read, listing rows, encodings, the room of a source, and what is left in every lent buffer, past its end too. Where document 01 departs from
 //! the Rust, or 01 or 02 says what the Rust does not tell, paper.rs takes the Rust's place. A source with an operand that looks like a label and has no dot is
 //! outside the comparison as it stands, by document 02's Point 2: the port gets it as it is, the Rust respelt, and such sources are counted apart. A
-//! source with a hexadecimal number the Rust gets in decimal, by Point 4 (hexadecimal.rs), and these are counted apart too.
+//! source with a hexadecimal number the Rust gets in decimal, by Point 4 (hexadecimal.rs), and these are counted apart too. So are sources with a bracketed
+//! operand outside mload and mstore, which are outside by Point 6: the Rust gets them with psp in its place, and the refusal follows from that (brackets.rs).
 //! One build meter is carried through the whole run: every source is built on it in every room that is tried, and its total is to be the sum of the words that
 //! the Rust gives for what is accepted. One source in fifty also begins at a meter of 2^64 - 1 - k, for each k from 0 to 3 (meter.rs).
 //!   compare [COUNT] [SEED]      default 20000 and 1
@@ -11,8 +12,10 @@
 //! With DRY=1 only the Rust runs. With TRACE=1 each case is printed before it runs.
 //! Exit status: 0 no difference; 1 a difference, a function of the port that was never called, a source whose room was not asked for, the Rust never asked
 //! for a counted length, no respelt source with a name, with an unreadable operand, or accepted, no source with a hexadecimal number that was accepted,
-//! accepted with one in brackets, unreadable, or unreadable with one of p or more, a source that was not built on the meter, or none that began near the stop,
-//! came to just 2^64 - 1, or was stopped there.
+//! accepted with one in brackets, unreadable, or unreadable with one of p or more, no source with a bracketed operand outside mload and mstore refused with 25,
+//! with 25 and all of them in dst, or with 3, 5, 6, 8, 9, 10 or 11, a source that was not built on the meter, or none that began near the stop, came to just
+//! 2^64 - 1, or was stopped there.
+mod brackets;
 mod check;
 mod generate;
 mod hexadecimal;
@@ -27,6 +30,7 @@ mod port;
 mod random;
 mod shrink;
 
+use brackets::Brackets;
 use check::{Case, Checker, Expected, Respellings, Rooms};
 use generate::{GENERATORS, LARGE_EVERY};
 use hexadecimal::Hexadecimals;
@@ -50,7 +54,7 @@ struct Run {
     counts: Vec<Count>,
 }
 
-/// The cases of one list or generator: how many, how many of them the Rust accepted, and how many the whole list has.
+/// The cases of one list or generator: how many, how many of them are accepted, and how many the whole list has.
 #[derive(Clone, Copy)]
 struct Count {
     name: &'static str,
@@ -153,7 +157,7 @@ impl Run {
             let of = if whole > cases { format!(" (of {whole})") } else { String::new() };
             println!("{cases:>9} {accepted:>9}  {name}{of}");
         }
-        println!("The Rust's answers and how often each came (0: accepted; 999: a panic, counted beside document 01's refusal):");
+        println!("The answers that were due and how often each (0: accepted; 999: a panic of the Rust, counted beside document 01's refusal):");
         for what in ["assemble", "open", "encode", "row"] {
             let told = |((of, number), count): (&(&str, u64), &u64)| if *of == what { Some(format!("{number}: {count}")) } else { None };
             let list: Vec<String> = self.checker.answers.iter().filter_map(told).collect();
@@ -169,6 +173,14 @@ impl Run {
         let Hexadecimals { sources, accepted, bracketed, unreadable, large } = self.checker.hexadecimals;
         println!("Sources with hexadecimal numbers, which the Rust was asked about in decimal: {sources}");
         println!("  accepted: {accepted} ({bracketed} with one in brackets), refused with 3: {unreadable} ({large} with one of p or more)");
+        let Brackets { refusals, in_dst } = self.checker.brackets;
+        let others: Vec<String> = (0..25).filter(|number| refusals[*number] > 0).map(|number| format!("{number}: {}", refusals[number])).collect();
+        let sources: u64 = refusals.iter().sum();
+        println!("Sources with a bracketed operand outside mload and mstore, which the Rust was asked about with psp there: {sources}");
+        println!("  refused with 25: {} ({in_dst} with all of them in dst), with what comes first: {}", refusals[25], others.join(", "));
+        let due = |number: u64| self.checker.answers.get(&("assemble", number)).copied().unwrap_or(0);
+        let share = |number: u64| 100.0 * due(number) as f64 / self.checker.rooms.sources as f64;
+        println!("  of all sources {:.2}% are refused with 25, {:.2}% are accepted", share(25), share(0));
         let Metering { sources, builds, accepted, near, exact, stopped } = self.checker.meters.counts;
         let (total, sum) = self.checker.meters.carried();
         println!("The build meter: {builds} builds of {sources} sources, {accepted} accepted; its total {total}, the sum of the Rust's words {sum}");
@@ -181,7 +193,8 @@ impl Run {
     }
 
     /// Whether something was not asked that was to be compared: a function of the port, the room of a source, a counted length of the Rust, a respelt source
-    /// of each sort, one that is accepted, a source with a hexadecimal number of each sort, a source on the meter, one near its stop of each sort.
+    /// of each sort, one that is accepted, a source with a hexadecimal number of each sort, one with brackets outside mload and mstore of each sort, a source on
+    /// the meter, one near its stop of each sort.
     fn left_out(&self) -> bool {
         let Rooms { sources, counted, .. } = self.checker.rooms;
         let Respellings { accepted, unreadable, .. } = self.checker.respellings;
@@ -191,7 +204,9 @@ impl Run {
         let respelt = accepted > 0 && unreadable > 0;
         let Hexadecimals { accepted, bracketed, unreadable, large, .. } = self.checker.hexadecimals;
         let hexadecimal = accepted > 0 && bracketed > 0 && unreadable > 0 && large > 0;
-        counted == 0 || !respelt || !hexadecimal || !self.checker.dry && !(called && metered)
+        let Brackets { refusals, in_dst } = self.checker.brackets;
+        let bracketed = [3, 5, 6, 8, 9, 10, 11, 25].iter().all(|number| refusals[*number] > 0) && in_dst > 0;
+        counted == 0 || !respelt || !hexadecimal || !bracketed || !self.checker.dry && !(called && metered)
     }
 }
 

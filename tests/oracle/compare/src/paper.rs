@@ -86,6 +86,11 @@ fn unused_letters(source: &str) -> [u8; 3] {
     (0..52 * 52 * 52).map(three).find(|three| !used.contains(&three[..])).unwrap()
 }
 
+/// The instruction rows in sorted order, where every row is readable.
+pub fn instructions(source: &str) -> Vec<&str> {
+    sorted(source).0.into_iter().map(|(_, row)| row).filter(|row| kind(row).is_none()).collect()
+}
+
 /// The rows in sorted order, and how many main scopes there are.
 fn sorted(source: &str) -> (Vec<(usize, &str)>, usize) {
     let mut scopes: Vec<Vec<(usize, &str)>> = vec![vec![]];
@@ -124,19 +129,27 @@ fn plain(operand: &str) -> bool {
     operand == "pc" || operand == "psp" || register(operand)
 }
 
+/// Whether an operation is one of those whose rows have a memory operand.
+pub fn memory(mnemonic: &str) -> bool {
+    ["mload", "mstore"].contains(&mnemonic)
+}
+
+/// Whether the first operand of a row, which has these pieces, is dst.
+pub fn dst_first(pieces: &[&str]) -> bool {
+    pieces.len() == 4 || ["mov", "not", "mload", "sigcheck"].contains(&pieces[0])
+}
+
 /// "Counted length: 1, plus 1 for op0 and 1 for op1 where it is a number, name, label or bracketed".
 fn counted_length(row: &str) -> u64 {
     let pieces: Vec<&str> = row.split_whitespace().collect();
-    let dst_first = pieces.len() == 4 || ["mov", "not", "mload", "sigcheck"].contains(&pieces[0]);
-    1 + pieces.iter().skip(if dst_first { 2 } else { 1 }).filter(|piece| !plain(piece)).count() as u64
+    1 + pieces.iter().skip(if dst_first(&pieces) { 2 } else { 1 }).filter(|piece| !plain(piece)).count() as u64
 }
 
 /// "The words: one for an instruction, one more for mload, mstore or an op1 that is a number, name or label". The last operand of a row is op1.
 fn word_count(row: &str) -> u64 {
     let pieces: Vec<&str> = row.split_whitespace().collect();
-    let memory = ["mload", "mstore"].contains(&pieces[0]);
     let op1 = pieces[1..].last();
-    1 + u64::from(memory || op1.is_some_and(|op1| !plain(op1) && !op1.starts_with('[')))
+    1 + u64::from(memory(pieces[0]) || op1.is_some_and(|op1| !plain(op1) && !op1.starts_with('[')))
 }
 
 /// "The label rows, the instructions, the counted length and the words" of a source, where every row is readable.
