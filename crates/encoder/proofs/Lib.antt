@@ -1,4 +1,5 @@
 pub mod Origins
 pub mod AcceptedLaws
 pub mod RowWordLaws
+pub mod BracketLaws
 pub mod Cases

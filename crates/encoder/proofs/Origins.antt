@@ -63,11 +63,11 @@ not-found false k e = refl
 pub general-resolved : (names : Names) (k : ℕ) (i : OlaAsmInstruction) (b : BinaryInstruction) → general names k i ≡ ok b → (hasBracket i ≡ false) × Resolved names k i b
 unfolding general
 general-resolved names k i b e =
-    let f = at-passed (cond (hasBracket i) (some k) none) 25 _ b e in
+    let f = at-passed _ _ _ b e in
     let x = ok-bind (plain names k (i .op0)) _ b (f .1) in
     let y = ok-bind (plain names k (i .op1)) _ b (x .2) in
     let z = ok-bind (plain names k (i .dst)) _ b (y .2) in
-    (not-found (hasBracket i) k (f .0), subst (Resolved names k i) (ok-same (z .2)) (record { opcode = refl; op0 = x .1; op1 = y .1; dst = z .1 }))
+    (not-found (hasBracket i) _ (f .0), subst (Resolved names k i) (ok-same (z .2)) (record { opcode = refl; op0 = x .1; op1 = y .1; dst = z .1 }))
 
 anchored-by : (k : ℕ) (o : OlaOpcode) (x : OlaAsmOperand) (d : OlaRegister) (b : BinaryInstruction) → anchored k o x (ARegister d) ≡ ok b
     → Anchored o x (RegisterOperand d) b
