@@ -42,7 +42,7 @@ uint64_t ola_version(void);
 #define OLA_STACK_OTHER 8192
 
 /* An entry of the label table. Kind: 0 call, 1 .LBL, 2 prophet. Start and length: the name's place in the source, without its colon. Address:
-   what the row marks (a prophet label's host), in an accepted source the position of that instruction's first word; unmapped: address 0. */
+   what the row marks (a prophet label's host), in an accepted source the position of a first word; unmapped: address 0. */
 typedef struct { uint8_t kind; bool mapped; size_t start, length; uint64_t address; } ola_label;
 
 /* What assembling answers: how many table entries, words and hosts were written, and how many prophets are kept. */

@@ -7,7 +7,7 @@ ghost use mathlib.Core.Path.{_≡_};
 ghost use Rattle.asm.specs.Rows.{instructionRow};
 ghost use Rattle.asm.specs.Survey.{rowCount};
 
-// A count of rows, the source's line_num: the detail of refusals 3, 10, 11 and 12. It is never added to a word address.
+// A count of rows, the source's line_num: the detail of refusals 3, 10, 11, 12 and 25. It is never added to a word address.
 pub struct RowCount(pub usize);
 
 // What a place of a source row holds. A label or a name is the part of the source that it stands in.
