@@ -42,7 +42,8 @@ pub record AcceptedRows (s prophets : List ℕ) (a : Accepted) : Type 0 where
   pub words : a .words ≡ programWords (a .program)
   pub hosts : hostsOf s rows prophets ≡ ok (a .hosts)
 
-tabled-sorted : (s : List ℕ) (room : ℕ) (rows : List AsmRow) → tabled s room ≡ ok rows → sortedOf s ≡ ok rows
+-- a source that 7 lets pass has the sorted rows that 1 to 6 let pass
+pub tabled-sorted : (s : List ℕ) (room : ℕ) (rows : List AsmRow) → tabled s room ≡ ok rows → sortedOf s ≡ ok rows
 unfolding tabled
 tabled-sorted s room rows e =
     let x = ok-bind (sortedOf s) _ rows e in

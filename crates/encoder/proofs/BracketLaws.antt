@@ -1,11 +1,12 @@
--- What 02's Point 6 changes: a row with brackets outside mload and mstore is refused with 25, every other row is made what 01 made it, and so is
--- every program that is accepted.
+-- What 02's Point 6 changes: a row with brackets outside mload and mstore is refused with 25. Every other row is made what it was made before, or
+-- refused as it was, and so is a program without such rows; a program that is accepted was accepted and is the same.
 use Prim.Native.Nat.{ℕ, suc}
 use mathlib.Core.Path.{_≡_, refl, sym, _∙_}
 use mathlib.Core.List.{List, [], _∷_}
 use mathlib.Core.Bool.{Bool, true, false, not, _&&_, cond, true≢false}
 use mathlib.Core.Option.{none, some}
 use Rattle.text.specs.Answer.{Answer, ok, refused, _>>=_, _>>_, refuseAt}
+use Rattle.text.specs.All.{All, none-left, one-more}
 use Rattle.text.proofs.AnswerLaws.{not-ok, ok-bind}
 use Rattle.vm_opcodes.specs.Operations.{rowPlaces}
 use Rattle.vm_opcodes.specs.declared.RowPlaces.{RowPlaces}
@@ -89,7 +90,14 @@ module _ (names : Names) (k : ℕ) (i : OlaAsmInstruction) where
       go true f = absurd (not-ok (sym (rows-changed f) ∙ e))
       go false f = sym (rows-stay f) ∙ e
 
--- and so was a program
+-- a program without such rows is what it was, refusals too
+pub programs-stay : (names : Names) (k : ℕ) (is : List OlaAsmInstruction) → All (λ i. bracketsOutside (rowPlaces (i .opcode)) i ≡ false) is
+    → canonicalFrom names k is ≡ formerFrom names k is
+unfolding canonicalFrom formerFrom
+programs-stay names k is none-left = refl
+programs-stay names k is (one-more {x = i} {xs = js} e es) = rw (rows-stay names k i e, programs-stay names (suc k) js es)
+
+-- a program that is accepted was accepted, and is the same
 pub accepted-was : (names : Names) (k : ℕ) (is : List OlaAsmInstruction) (bs : List BinaryInstruction) → canonicalFrom names k is ≡ ok bs → formerFrom names k is ≡ ok bs
 unfolding canonicalFrom formerFrom _>>=_
 accepted-was names k [] bs e = e

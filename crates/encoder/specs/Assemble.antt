@@ -1,7 +1,7 @@
 -- Assembling: what it answers, refusals 1 to 13 and 25 in their order, and what it leaves in every lent buffer.
 use Prim.Native.Nat.{ℕ}
 use mathlib.Core.List.{List}
-use mathlib.Core.Bool.{Bool, _||_}
+use mathlib.Core.Bool.{_||_}
 use lib.Dec.{ltb}
 use lib.ListN.{length}
 use Rattle.text.specs.Answer.{Answer, ok, refused, _>>=_, _>>_, refuseIf, refuseAt, over, onOk}

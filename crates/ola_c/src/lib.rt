@@ -52,8 +52,9 @@ pub extern "C" fn ola_room_of(source: &[u8]) -> OlaRoom
 }
 
 // Assembles a source with a prophet list over parallel arrays.
-// Promises: counts-answered, words-left, same-words, same-bytecode, one-program, words-ahead, accepted-has-rows, names-are-word-counts, table-is-positions,
-// lengths-are-one, addresses-are-positions, later-kept, kept-counted, rows-by-lines, same-lines, room-is-built, room-refused, room-suffices, room-never-short.
+// Promises: counts-answered, words-left, columns-left, same-words, same-bytecode, one-program, words-ahead, accepted-has-rows, lengths-are-one,
+// addresses-are-positions, instructions-stand, names-are-word-counts, table-is-positions, later-kept, kept-counted, rows-by-lines, same-lines, room-is-built,
+// room-refused, room-suffices, room-never-short.
 #[no_mangle]
 pub extern "C" fn ola_assemble_parts(
     source: &[u8],
@@ -90,8 +91,9 @@ pub extern "C" fn ola_assemble_parts(
 }
 
 // Assembles a source with a prophet list over a table of entries.
-// Promises: counts-answered, words-left, same-words, same-bytecode, one-program, words-ahead, accepted-has-rows, names-are-word-counts, table-is-positions,
-// lengths-are-one, addresses-are-positions, later-kept, kept-counted, rows-by-lines, same-lines, room-is-built, room-refused, room-suffices, room-never-short.
+// Promises: counts-answered, words-left, table-left, same-words, same-bytecode, one-program, words-ahead, accepted-has-rows, lengths-are-one,
+// addresses-are-positions, instructions-stand, names-are-word-counts, table-is-positions, later-kept, kept-counted, rows-by-lines, same-lines, room-is-built,
+// room-refused, room-suffices, room-never-short.
 #[no_mangle]
 pub extern "C" fn ola_assemble(
     source: &[u8],

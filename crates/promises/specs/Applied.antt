@@ -3,10 +3,10 @@ use Prim.Native.Nat.{ℕ, zero, suc, _≤_, _<_}
 use mathlib.Core.Logic.{_⊎_}
 use mathlib.Core.Path.{_≡_, refl, sym, subst, _∙_}
 use mathlib.Core.List.{List, [], _∷_, map, zipWith}
-use mathlib.Core.Bool.{true}
+use mathlib.Core.Bool.{true, false}
 use mathlib.Core.Option.{some, Option·some-injective, Option·none-ne-some}
 use native.Mathlib.Omega.{arith}
-use lib.ListN.{length, take, getElem?, replicate}
+use lib.ListN.{length, take, getElem?, replicate, length-replicate}
 use Rattle.text.specs.Bytes.{bytes, isSpace, isDigit, isLetter, isWord, same}
 use Rattle.text.specs.Lists.{total}
 use Rattle.text.specs.Scan.{scan, all, parts}
@@ -33,6 +33,8 @@ use Rattle.asm.specs.declared.AsmRow.the-variants.{Instruction, LabelCall, Labe
 use Rattle.relocate.specs.Scopes.{cutAtCalls, scopesThat, rowsOfScopes}
 use Rattle.relocate.specs.Labels.{LabelRow, callKind, jmpKind, prophetKind, labelRows, holder}
 use Rattle.relocate.specs.Prophets.{withoutLastEmpty, labelsAfterHead, listedLabels, hostsFrom, isIn, keptFrom}
+use Rattle.relocate.specs.Columns.{tableLeft, columnLeft, addressIn}
+use Rattle.relocate.specs.declared.LabelEntry.{LabelEntry}
 use Rattle.relocate.specs.Relocate.{firstAbove127, rowsRead, sortedOf, tabled, hostsOf}
 use Rattle.relocate.specs.Room.{roomOf}
 use Rattle.relocate.specs.declared.RoomFigures.{RoomFigures}
@@ -45,9 +47,9 @@ use Rattle.encoder.specs.Canonical.{namesOf, canonicalProgram, general, memory,
 use Rattle.encoder.specs.Assemble.{Room, Accepted, encodedRows, assembled, totalsOf, assembledTotals, wordsLeft}
 use Rattle.decoder.specs.Open.{opened, run}
 use Rattle.decoder.specs.Steps.{runAt, nthCall}
-use Rattle.promises.specs.Terms.{contentAt, IsPosition, IsPositionBefore, HoldsPosition, IsKept}
+use Rattle.promises.specs.Terms.{contentAt, Stands, IsPosition, IsPositionBefore, HoldsPosition, IsKept}
 use Rattle.promises.specs.Starred.{plenty, printingSource}
-use Rattle.promises.specs.Promises.{counts-answered, words-left, bytecode-left, room-is-built, counted-is-words, room-refused, room-suffices, room-never-short, run-by-offsets, nth-reads, one-program, bytecode-opens, run-reads, words-ahead, accepted-has-rows, lengths-are-one, addresses-are-positions, names-are-word-counts, table-is-positions, later-kept, kept-counted, rows-by-lines, same-lines}
+use Rattle.promises.specs.Promises.{counts-answered, words-left, table-left, columns-left, bytecode-left, room-is-built, counted-is-words, room-refused, room-suffices, room-never-short, run-by-offsets, nth-reads, one-program, bytecode-opens, run-reads, words-ahead, accepted-has-rows, lengths-are-one, addresses-are-positions, instructions-stand, names-are-word-counts, table-is-positions, later-kept, kept-counted, rows-by-lines, same-lines}
 
 -- ---- the printing source
 
@@ -173,7 +175,11 @@ printing-address : 5 ≡ length (programWords (take 3 printingProgram))
 unfolding instructions total
 printing-address = addresses-are-positions printingSource [] plenty printingAccepted printing-accepted printingRows printing-sorted 3
 
--- `call f` holds the count of the words before f's `ret`, which is 5, and the `ret` stands there
+-- and the `ret` stands there
+printing-stands : Stands printingAccepted 3
+printing-stands = instructions-stand printingSource [] plenty printingAccepted printing-accepted 3 (omega arith)
+
+-- `call f` holds that count
 printing-call : HoldsPosition (namesOf printingSource printingRows) printingAccepted callKind 28 1 (aNumber 5)
 unfolding instructions
 printing-call =
@@ -183,7 +189,12 @@ printing-call =
     let e : made CALL Empty (aNumber 5) Empty ≡ x .0 = Option·some-injective _ _ (x .1) in
     subst (λ (b : BinaryInstruction). HoldsPosition (namesOf printingSource printingRows) printingAccepted callKind 28 1 (contentAt Op1 b)) (sym e) (x .2 Op1 28 1 .0 refl)
 
--- so f's entry of the table, the third, has the position of the `ret`, and the prophet's, the second, that of `call f` before it
+-- what a caller holds of the table: the addresses in a column of five
+printing-column : take 3 (columnLeft (tabled printingSource (plenty .entries)) addressIn (replicate 5 7)) ≡ 0 ∷ 2 ∷ 5 ∷ []
+unfolding instructions labelRows total
+printing-column = columns-left printingSource [] plenty printingAccepted printing-accepted printingRows printing-sorted addressIn (replicate 5 7)
+
+-- f's entry of the table, the third, has the position of the `ret`, and the prophet's, the second, that of `call f` before it
 printing-entry : (l : LabelRow) × (some (record { kind = callKind; start = 0; length = 1; marks = 3; mapped = true }) ≡ some l) × IsPosition printingAccepted (l .marks) 5
 unfolding instructions labelRows total
 printing-entry =
@@ -234,6 +245,10 @@ label-sorted : sortedOf labelSource ≡ ok labelSorted
 unfolding isSpace isDigit isLetter isWord same scan all parts _>>=_ _>>_ refuseIf refuseAt digitValue valueFrom numeral operations firstOperation registers registerOf specialOf signed numberOf placed filledParts piecesFrom linePieces rowPieces isSourceNumber sourceNumber shapes firstMatch arranged operandsOf arrangedIf isCallRow isPairRow labelRow rowOf nameAt cutAtCalls scopesThat rowsOfScopes firstAbove127 readRows rowsRead sortedOf
 label-sorted = refl
 
+-- an entry that a caller left there
+abbrev labelLent : LabelEntry
+labelLent = record { kind = 9; mapped = false; start = 9; length = 9; address = record { 0 = 9 } }
+
 -- `jmp .LBL1_1` holds the count of the words before itself, which is 2
 label-jump : HoldsPosition (namesOf labelSource labelSorted) labelAccepted jmpKind 28 7 (aNumber 2)
 unfolding instructions
@@ -241,6 +256,18 @@ label-jump =
     let x = names-are-word-counts labelSource [] plenty labelAccepted label-accepted labelSorted label-sorted 1 labelJump refl in
     let e : made JMP Empty (aNumber 2) Empty ≡ x .0 = Option·some-injective _ _ (x .1) in
     subst (λ (b : BinaryInstruction). HoldsPosition (namesOf labelSource labelSorted) labelAccepted jmpKind 28 7 (contentAt Op1 b)) (sym e) (x .2 Op1 28 7 .1 refl)
+
+-- and the label's entry has that position
+label-entry : (l : LabelRow) × (some (record { kind = jmpKind; start = 15; length = 7; marks = 1; mapped = true }) ≡ some l) × IsPosition labelAccepted (l .marks) 2
+unfolding instructions labelRows total
+label-entry =
+    let x = table-is-positions labelSource [] plenty labelAccepted label-accepted labelSorted label-sorted 1 (record { kind = jmpKind; mapped = true; start = 15; length = 7; address = record { 0 = 2 } }) refl refl in
+    (x .0, x .1, x .3 refl)
+
+-- the table as entries, in one as long as it was lent
+label-table : take 2 (tableLeft labelSource (replicate 1000 labelLent)) ≡ record { kind = callKind; mapped = true; start = 0; length = 4; address = record { 0 = 0 } } ∷ record { kind = jmpKind; mapped = true; start = 15; length = 7; address = record { 0 = 2 } } ∷ []
+unfolding instructions labelRows total
+label-table = table-left labelSource [] plenty labelAccepted label-accepted labelSorted label-sorted (replicate 1000 labelLent) (length-replicate 1000 labelLent)
 
 -- ---- two prophets on one host
 

@@ -1,15 +1,14 @@
 -- The rows of an accepted source, the positions of its instructions, and the names and the label table, whose addresses are such positions.
 use Prim.Native.Nat.{ℕ, zero, suc, _+_, _<_}
-use mathlib.Core.Path.{_≡_, refl, sym, ap, subst, _∙_}
+use mathlib.Core.Path.{_≡_, sym, ap, subst, _∙_}
 use mathlib.Core.List.{List, map}
 use mathlib.Core.Bool.{true, cond}
 use mathlib.Core.Option.{some}
 use native.Mathlib.Omega.{arith}
 use lib.Dec.{eqb}
-use lib.ListN.{length, take, getElem?}
-use Rattle.text.specs.Lists.{total}
+use lib.ListN.{length, take, getElem?, length-map}
 use Rattle.text.specs.Answer.{ok}
-use Rattle.text.proofs.AnswerLaws.{ok-same}
+use Rattle.text.proofs.AnswerLaws.{ok-same, ok-bind}
 use Rattle.text.proofs.EntryLaws.{at-below, at-map, all-at}
 use Rattle.vm_hardware.specs.declared.Place.{Place}
 use Rattle.vm_operands.specs.declared.OlaOperand.{OlaOperand}
@@ -19,7 +18,8 @@ use Rattle.asm.specs.declared.OlaAsmOperand.the-variants.{Label, Identifier}
 use Rattle.asm.specs.declared.OlaAsmInstruction.{OlaAsmInstruction}
 use Rattle.asm.specs.declared.AsmRow.{AsmRow}
 use Rattle.relocate.specs.Labels.{LabelRow, callKind, jmpKind, prophetKind, labelRows, addressOf, hostOf, markedAddress, entryOf, tableOf}
-use Rattle.relocate.specs.Relocate.{sortedOf}
+use Rattle.relocate.specs.Columns.{tableLeft, columnLeft}
+use Rattle.relocate.specs.Relocate.{sortedOf, tabled}
 use Rattle.relocate.specs.declared.LabelEntry.{LabelEntry}
 use Rattle.relocate_laws.proofs.MarkLaws.{rows-mark, holder-marks}
 use Rattle.program.specs.Words.{emittedLength, wordsBefore}
@@ -28,9 +28,10 @@ use Rattle.program.proofs.FormLaws.{first-there}
 use Rattle.encoder.specs.Canonical.{namesOf, canonicalProgram}
 use Rattle.encoder.specs.Assemble.{Room, Accepted, assembled}
 use Rattle.encoder.proofs.RowWordLaws.{rows-length}
-use Rattle.encoder.proofs.AcceptedLaws.{accepted-rows}
+use Rattle.encoder.proofs.AcceptedLaws.{tabled-sorted, accepted-rows}
 use Rattle.promises.specs.Terms.{operandAt, contentAt, Stands, IsPosition, IsPositionBefore, HoldsPosition}
-use Rattle.promises.specs.NameLaws.{HoldsCount, lengths-agree, names-are-word-counts}
+use Rattle.promises.specs.TieLaws.{left-front}
+use Rattle.promises.specs.NameLaws.{HoldsCount, lengths-agree, addresses-are-words, names-are-word-counts}
 use Rattle.promises.specs.AcceptedLaws.{accepted-words, accepted-form, accepted-shaped}
 
 -- the address of a mapped row of a kind
@@ -50,7 +51,7 @@ module _ (s prophets : List ℕ) (room : Room) (a : Accepted) (h : assembled s p
   rows-there = let r = accepted-rows s prophets room a h in (r .rows, r .sorted, r .canonical, rows-length s (r .rows) (a .program) (r .canonical))
 
   -- instruction n of the program, where it has one, stands where the words before it end
-  stands : (n : ℕ) → n < length (a .program) → Stands a n
+  pub stands : (n : ℕ) → n < length (a .program) → Stands a n
   stands n l =
       let j = at-below (a .program) n l in (
         j .0,
@@ -66,7 +67,7 @@ module _ (s prophets : List ℕ) (room : Room) (a : Accepted) (h : assembled s p
 
     -- so addresses are counts of words
     pub address-words : (n : ℕ) → addressOf (instructions rows) n ≡ wordsBefore (a .program) n
-    address-words n = ap (λ (l : List ℕ). total (take n l)) lengths-one
+    address-words = addresses-are-words s rows (a .program) (of-rows rows e) (accepted-rows s prophets room a h .placed) (accepted-shaped s prophets room a h rows e)
 
     -- an instruction that a row marks is one of the program
     within : (n : ℕ) → n < 0 + length (instructions rows) → n < length (a .program)
@@ -96,6 +97,31 @@ module _ (s prophets : List ℕ) (room : Room) (a : Accepted) (h : assembled s p
         )
 
     -- ---- the label table
+
+    -- it is filled from these rows
+    rows-tabled : tabled s (room .entries) ≡ ok rows
+    unfolding assembled
+    rows-tabled =
+        let t = ok-bind (tabled s (room .entries)) _ a h in
+        subst (λ (x : List AsmRow). tabled s (room .entries) ≡ ok x) (ok-same (sym (tabled-sorted s (room .entries) (t .0) (t .1)) ∙ e)) (t .1)
+
+    -- and has as many entries as are answered
+    entries-answered : a .labels ≡ length (tableOf rows)
+    entries-answered =
+        let r = accepted-rows s prophets room a h in
+        r .labels
+        ∙ ap (λ (x : List AsmRow). length (labelRows 0 x)) (ok-same (sym (r .sorted) ∙ e))
+        ∙ sym (length-map (labelRows 0 rows) (entryOf (instructions rows)))
+
+    pub entries-left : (lent : List LabelEntry) → length lent ≡ room .entries → take (a .labels) (tableLeft s lent) ≡ tableOf rows
+    entries-left lent n =
+        ap (λ (k : ℕ). take k (tableLeft s lent)) entries-answered
+        ∙ left-front (tabled s (length lent)) tableOf lent rows (ap (tabled s) n ∙ rows-tabled)
+
+    pub column-left : {A : Type 0} (field : LabelEntry → A) (lent : List A) → take (a .labels) (columnLeft (tabled s (room .entries)) field lent) ≡ map field (tableOf rows)
+    column-left field lent =
+        ap (λ (k : ℕ). take k (columnLeft (tabled s (room .entries)) field lent)) (entries-answered ∙ sym (length-map (tableOf rows) field))
+        ∙ left-front (tabled s (room .entries)) (λ (x : List AsmRow). map field (tableOf x)) lent rows rows-tabled
 
     -- the host of a prophet row
     host-position : (n address : ℕ) → n < length (a .program) → address ≡ hostOf (instructions rows) n → IsPositionBefore a n address

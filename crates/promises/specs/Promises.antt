@@ -25,7 +25,8 @@ use Rattle.asm.specs.declared.AsmRow.{AsmRow}
 use Rattle.asm_laws.proofs.LineLaws.{textRows, lines-texts}
 use Rattle.relocate.specs.Labels.{LabelRow, callKind, jmpKind, prophetKind, labelRows, addressOf, tableOf}
 use Rattle.relocate.specs.Prophets.{listedLabels, placeOf, keptFrom}
-use Rattle.relocate.specs.Relocate.{rowsRead, sortedOf}
+use Rattle.relocate.specs.Columns.{tableLeft, columnLeft}
+use Rattle.relocate.specs.Relocate.{rowsRead, sortedOf, tabled}
 use Rattle.relocate.specs.Room.{roomOf}
 use Rattle.relocate.specs.declared.LabelEntry.{LabelEntry}
 use Rattle.relocate.specs.declared.RoomFigures.{RoomFigures}
@@ -46,11 +47,11 @@ use Rattle.decoder.specs.Steps.{runAt, nthCall}
 use Rattle.decoder.proofs.BytecodeLaws.{opens}
 use Rattle.decoder.proofs.OffsetLaws.{run-by-offsets as offsets-run}
 use Rattle.decoder.proofs.OpenedLaws.{opened-run as run-opened, opened-form as form-opened}
-use Rattle.promises.specs.Terms.{SameProgram, operandAt, contentAt, IsPosition, IsPositionBefore, HoldsPosition, IsKept, rowsByLines}
+use Rattle.promises.specs.Terms.{SameProgram, operandAt, contentAt, Stands, IsPosition, IsPositionBefore, HoldsPosition, IsKept, rowsByLines}
 use Rattle.promises.specs.TieLaws.{left-front, bytecode-fits, nth-answer, lines-read}
 use Rattle.promises.specs.SameLaws.{words-same, bytecode-same, program-alone}
 use Rattle.promises.specs.AcceptedLaws.{accepted-words, accepted-readable, accepted-short, accepted-form}
-use Rattle.promises.specs.NamePromise.{rows-there, lengths-one, address-words, names-counted, table-positions}
+use Rattle.promises.specs.NamePromise.{rows-there, stands, lengths-one, address-words, names-counted, entries-left, column-left, table-positions}
 use Rattle.promises.specs.RoomLaws.{room-built, counted-words, refused-so, room-enough, room-late}
 
 -- What a caller holds after an accepted call.
@@ -64,6 +65,16 @@ module _ (s prophets : List ℕ) (room : Room) (a : Accepted) (h : assembled s p
   pub words-left : (lent : List ℕ) → take (length (a .words)) (wordsLeft (assembled s prophets room) lent) ≡ a .words
   words-left lent = left-front (assembled s prophets room) (λ (x : Accepted). x .words) lent a h
 
+  -- Where the table is lent as entries (encoder_entries::assemble, ola_assemble), that of its sorted rows stands in it from its start on,
+  pub table-left : (rows : List AsmRow) → sortedOf s ≡ ok rows → (lent : List LabelEntry) → length lent ≡ room .entries
+      → take (a .labels) (tableLeft s lent) ≡ tableOf rows
+  table-left = entries-left s prophets room a h
+
+  -- and where it is lent as columns (encoder_assemble::assemble_parts, ola_assemble_parts), each column of it in the slice lent for it.
+  pub columns-left : (rows : List AsmRow) → sortedOf s ≡ ok rows → {A : Type 0} (field : LabelEntry → A) (lent : List A)
+      → take (a .labels) (columnLeft (tabled s (room .entries)) field lent) ≡ map field (tableOf rows)
+  columns-left = column-left s prophets room a h
+
   -- program_bytecode::write_bytecode and ola_write_bytecode, given these words and 524,288 bytes or as many as it takes, leave their bytecode.
   pub bytecode-left : (text : List ℕ) → length (bytecodeOf (a .words)) ≤ length text
       → take (length (bytecodeOf (a .words))) (textLeft (bytecodeWritten (a .words) (length text)) text) ≡ bytecodeOf (a .words)
@@ -76,7 +87,7 @@ module _ (s prophets : List ℕ) (room : Room) (a : Accepted) (h : assembled s p
       → roomOf s ≡ ok (record { labels = a .labels; instructions = length (a .program); counted = addressOf (instructions rows) (length (a .program)); words = length (a .words) })
   room-is-built = room-built s prophets room a h
 
-  -- Of an accepted source they tell one number as its counted length and its words. (Of one that 11, 12 or 25 turns away they may tell two.)
+  -- Of an accepted source they tell one number as its counted length and its words. (Of one that is refused after 6 they may tell two.)
   -- Who sets aside a word for each address has set aside just enough.
   pub counted-is-words : (f : RoomFigures) → roomOf s ≡ ok f → f .counted ≡ f .words
   counted-is-words = counted-words s prophets room a h
@@ -189,16 +200,22 @@ module _ (s prophets : List ℕ) (room : Room) (a : Accepted) (h : assembled s p
   accepted-has-rows = rows-there s prophets room a h
 
   -- The counted length of each of its rows is the count of words of that row's instruction.
-  -- Of the same functions, and relocate_measure::room_of and ola_room_of, which tell the sum.
-  -- A reviewer need not tell the two lengths apart: 25 turns away the rows in which they differ.
+  -- Of the same functions.
+  -- A reviewer need not tell the two lengths apart: rows in which they differ are turned away, by 10, 11, 12 or 25.
   pub lengths-are-one : (rows : List AsmRow) → sortedOf s ≡ ok rows → map countedLength (instructions rows) ≡ map emittedLength (a .program)
   lengths-are-one = lengths-one s prophets room a h
 
   -- The address of instruction n, a sum of counted lengths, is how many words the instructions ahead of it have.
   -- Of the same functions.
-  -- An address is a position in the words: what stands there is the instruction.
+  -- An address is a place among the words.
   pub addresses-are-positions : (rows : List AsmRow) → sortedOf s ≡ ok rows → (n : ℕ) → addressOf (instructions rows) n ≡ length (programWords (take n (a .program)))
   addresses-are-positions rows e n = address-words s prophets room a h rows e n ∙ sym (words-ahead n)
+
+  -- Every instruction stands there: its first word is the word at that place.
+  -- Of the same functions.
+  -- With the last theorem: what a reader of the words finds at an instruction's address is that instruction.
+  pub instructions-stand : (n : ℕ) → n < length (a .program) → Stands a n
+  instructions-stand = stands s prophets room a h
 
   -- The k-th instruction row has its k-th instruction, and each name in a place of the row is, in that place of the instruction, the count of words
   -- before the instruction that is marked by the row that holds the name; that instruction is there, and its first word stands at that count. Each
