@@ -25,13 +25,14 @@ ghost use Rattle.meter.specs.Meter.{atStart, meterAfter};
 ghost use Rattle.meter_builds.specs.Lent.{lentIn, roomIn, lentLeft};
 ghost use Rattle.decoder.specs.Open.{opened};
 ghost use Rattle.decoder.specs.Steps.{acceptedOf, stepped, steppedAt};
+ghost use Rattle.source.specs.SourceText.{sourceWritten};
 ghost use Rattle.ola_places.specs.Places.{instructionIn};
 ghost use Rattle.ola_answers.specs.Answers.{assemblyOf, meteredOf, figuresOut, writtenOf, nameOf};
 ghost use Rattle.ola_steps.specs.Steps.{openedOf};
 ghost use Rattle.ola_c.specs.Exports.{version, lineStep, offsetStep, encodingNamed, listed, listedText};
 
 // The version of this interface: that of include/ola.h. It is raised whenever a function is added, or a struct, a signature or an answer changes.
-pub const OLA_VERSION: u64 = 6;
+pub const OLA_VERSION: u64 = 7;
 
 // The version of the library, which a caller compares with its header's.
 // Promises: none; its contract is its whole outcome.
@@ -171,6 +172,18 @@ pub extern "C" fn ola_write_bytecode(words: &[u64], text: &mut [u8]) -> OlaWritt
 {
     let answer = program_bytecode::write_bytecode(words, text);
     ola_answers::written_out(answer)
+}
+
+// Writes a source of a bytecode's instructions.
+// Promises: source-refused, first-off-row, source-written, source-left, source-assembles, source-of-accepted, source-same-words, source-fits,
+// no-row-reads-so.
+#[no_mangle]
+pub extern "C" fn ola_write_source(bytecode: &[u8], text: &mut [u8]) -> OlaWritten
+    ensures { λ r. ⌜ r ≡ writtenOf (countOf (sourceWritten (now (bytecode .entry)) (length (now (text .entry))))) ⌝ }
+    ensures { λ _. ⌜ now (text .exit) ≡ textLeft (sourceWritten (now (bytecode .entry)) (length (now (text .entry)))) (now (text .entry)) ⌝ }
+{
+    let answer = source_write::write_source(bytecode, text);
+    ola_answers::source_out(answer)
 }
 
 // Whether a text opens as bytecode.
