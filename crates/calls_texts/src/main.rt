@@ -1,5 +1,5 @@
-// Bytecode written, opened and read back, its rows listed, source written from it, and an instruction encoded, on the words that document 01 prints for its printing source.
-// The README shows these calls.
+// Bytecode written, opened and read back, its rows listed, source written from it, and an instruction encoded, on the words that document 01 prints for
+// its printing source. The README shows these calls.
 use decoder::Found;
 use decoder::Opening;
 use libc::STDOUT_FILENO;
