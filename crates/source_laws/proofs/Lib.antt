@@ -1,1 +1,5 @@
 pub mod ReadsAs
+pub mod DecimalLaws
+pub mod PieceLaws
+pub mod PlaceLaws
+pub mod RowLaws
