@@ -1,1 +1,2 @@
 pub mod ReadsAs
+pub mod AssembledLaws
