@@ -3,3 +3,4 @@ pub mod DecimalLaws
 pub mod PieceLaws
 pub mod PlaceLaws
 pub mod RowLaws
+pub mod AssembledLaws
