@@ -1,1 +1,3 @@
 pub mod ReadsAs
+pub mod RowLengths
+pub mod LengthLaws
