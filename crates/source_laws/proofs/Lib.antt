@@ -4,3 +4,5 @@ pub mod PieceLaws
 pub mod PlaceLaws
 pub mod RowLaws
 pub mod AssembledLaws
+pub mod RowLengths
+pub mod LengthLaws
