@@ -13,8 +13,7 @@ use Rattle.text.specs.Scan.{scan, all, parts, isEmpty}
 use Rattle.text.specs.Lines.{isFeed, notFeed}
 use Rattle.text.specs.All.{All, none-left, one-more}
 use Rattle.text.specs.Answer.{ok, _>>=_, _>>_, refuseIf, refuseAt}
-use Rattle.text.proofs.Laws.{scan-all, other-byte}
-use Rattle.text.proofs.PartLaws.{parts-whole}
+use Rattle.text.proofs.Laws.{other-byte}
 use Rattle.asm.specs.Parts.{Part, placed, filledParts, piecesFrom, linePieces, rowPieces, sourcePieces, nameAt}
 use Rattle.asm.specs.Rows.{isCallRow, labelRow, rowOf, readRows, instructions}
 use Rattle.asm.specs.declared.OlaAsmInstruction.{OlaAsmInstruction}
@@ -32,6 +31,7 @@ use Rattle.program.specs.declared.BinaryInstruction.{BinaryInstruction}
 use Rattle.encoder.specs.Canonical.{Names, namesOf, canonicalFrom, canonicalProgram, firstMisplaced}
 use Rattle.encoder.specs.Assemble.{Room, encodedRows, assembled}
 use Rattle.source.specs.SourceText.{sourceRow, sourceText}
+use Rattle.source_laws.proofs.PieceLaws.{all-else, all-joined, part-alone}
 use Rattle.source_laws.proofs.ReadsAs.{isRowByte, ReadsAs}
 
 -- ---- lines of row bytes, joined
@@ -52,25 +52,13 @@ not-feed b h = ap not (other-byte isRowByte b 10 h refl)
 not-above : (b : ℕ) → isRowByte b ≡ true → isAscii b ≡ true
 not-above b h = let k = leb-true b 126 (and-eq-true-iff (leb 32 b) (leb b 126) .0 h .1) in le-leb b 127 (omega arith)
 
--- bytes that pass one test pass another that is weaker
-all-weaker : (p q : ℕ → Bool) → ((b : ℕ) → p b ≡ true → q b ≡ true) → (s : List ℕ) → all p s ≡ true → all q s ≡ true
-unfolding all
-all-weaker p q f [] h = refl
-all-weaker p q f (x ∷ xs) h = let a = and-eq-true-iff (p x) (all p xs) .0 h in rw (f x (a .0), all-weaker p q f xs (a .1))
-
--- the bytes of two texts, one after another
-passed-append : (p : ℕ → Bool) (xs ys : List ℕ) → all p xs ≡ true → all p ys ≡ true → all p (xs ++ ys) ≡ true
-unfolding all
-passed-append p [] ys h k = k
-passed-append p (x ∷ xs) ys h k = let a = and-eq-true-iff (p x) (all p xs) .0 h in rw (a .0, passed-append p xs ys (a .1) k)
-
 -- joined lines have no byte above 127
 lines-ascii : (ls : List (List ℕ)) → All RowLine ls → all isAscii (joined ls) ≡ true
 unfolding joined all
 lines-ascii [] c = refl
-lines-ascii (l ∷ []) (one-more h c) = all-weaker isRowByte isAscii not-above l h
+lines-ascii (l ∷ []) (one-more h c) = all-else isRowByte isAscii not-above l h
 lines-ascii (l ∷ m ∷ ls) (one-more h c) =
-    passed-append isAscii l (10 ∷ joined (m ∷ ls)) (all-weaker isRowByte isAscii not-above l h) (lines-ascii (m ∷ ls) c)
+    all-joined isAscii l (10 ∷ joined (m ∷ ls)) (all-else isRowByte isAscii not-above l h) (lines-ascii (m ∷ ls) c)
 
 -- refusal 2 finds none
 none-above : (k : ℕ) (s : List ℕ) → all isAscii s ≡ true → firstAbove127 k s ≡ none
@@ -82,7 +70,7 @@ none-above k (b ∷ bs) h =
 
 -- a line is one part
 line-whole : (l : List ℕ) → RowLine l → parts isFeed l ≡ l ∷ []
-line-whole l h = let e = scan-all notFeed l (all-weaker isRowByte notFeed not-feed l h) in parts-whole isFeed l (omega arith)
+line-whole l h = part-alone isFeed l (all-else isRowByte notFeed not-feed l h)
 
 -- joined lines are parted again
 lines-parted : (l : List ℕ) (ls : List (List ℕ)) → All RowLine (l ∷ ls) → parts isFeed (joined (l ∷ ls)) ≡ l ∷ ls

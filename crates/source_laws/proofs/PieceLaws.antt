@@ -1,6 +1,6 @@
 -- The pieces of a written row: its mnemonic and its places, with a space before each place.
 use Prim.Native.Nat.{ℕ, _+_, _≤_}
-use mathlib.Core.Path.{_≡_, refl, ap, _∙_}
+use mathlib.Core.Path.{_≡_, refl, ap, ap₂, _∙_}
 use mathlib.Core.List.{List, [], _∷_, _++_, append-nil}
 use mathlib.Core.Bool.{Bool, true, false, not, _&&_, and-false, and-eq-true-iff}
 use native.Mathlib.Omega.{arith}
@@ -12,7 +12,9 @@ use Rattle.text.specs.Bytes.{isSpace, within}
 use Rattle.text.specs.Scan.{all, parts, isEmpty}
 use Rattle.text.specs.All.{All, one-more}
 use Rattle.text.proofs.Laws.{scan-all}
+use Rattle.text.proofs.PartLaws.{parts-whole}
 use Rattle.asm.specs.Parts.{placed, filledParts, withoutComment, piecesFrom, linePieces}
+use Rattle.asm_laws.proofs.MoveLaws.{parts-joined}
 use Rattle.source.specs.SourceText.{spacedAll}
 use Rattle.source_laws.proofs.ReadsAs.{isRowByte}
 
@@ -74,21 +76,9 @@ row-bytes = row-all isRowByte refl plain-row-byte
 
 -- ---- pieces
 
--- a part in front of a byte that passes the test, and one alone
-module _ (p : ℕ → Bool) where
-  part-front : (c : ℕ) (l rest : List ℕ) → p c ≡ true → all (λ b. not (p b)) l ≡ true → parts p (l ++ c ∷ rest) ≡ l ∷ parts p rest
-  unfolding all parts
-  part-front c [] rest t h = rw t
-  part-front c (x ∷ l) rest t h =
-      let a = and-eq-true-iff (not (p x)) (all (λ b. not (p b)) l) .0 h in
-      rw (not-true (p x) (a .0), part-front c l rest t (a .1))
-
-  part-alone : (l : List ℕ) → all (λ b. not (p b)) l ≡ true → parts p l ≡ l ∷ []
-  unfolding all parts
-  part-alone [] h = refl
-  part-alone (x ∷ l) h =
-      let a = and-eq-true-iff (not (p x)) (all (λ b. not (p b)) l) .0 h in
-      rw (not-true (p x) (a .0), part-alone l (a .1))
+-- a text none of whose bytes passes the test is one part
+pub part-alone : (p : ℕ → Bool) (l : List ℕ) → all (λ b. not (p b)) l ≡ true → parts p l ≡ l ∷ []
+part-alone p l h = let e = scan-all (λ b. not (p b)) l h in parts-whole p l (omega arith)
 
 no-space : (l : List ℕ) → Piece l → all (λ b. not (isSpace b)) l ≡ true
 no-space l h = all-else isPlain (λ b. not (isSpace b)) plain-no-space l (h .plain)
@@ -97,7 +87,7 @@ row-parts : (m : List ℕ) (ps : List (List ℕ)) → Piece m → All Piece ps �
 unfolding spacedAll isSpace
 row-parts m [] h c = ap (parts isSpace) (append-nil m) ∙ part-alone isSpace m (no-space m h)
 row-parts m (p ∷ ps) h (one-more k c) =
-    part-front isSpace 32 m (p ++ spacedAll ps) refl (no-space m h) ∙ ap (λ (qs : List (List ℕ)). m ∷ qs) (row-parts p ps k c)
+    parts-joined isSpace m 32 (p ++ spacedAll ps) refl ∙ ap₂ _++_ (part-alone isSpace m (no-space m h)) (row-parts p ps k c)
 
 filled-all : (i : ℕ) (ls : List (List ℕ)) → All Piece ls → filledParts (placed i ls) ≡ placed i ls
 unfolding filledParts placed
