@@ -72,7 +72,8 @@ fn off_row(places: RowPlaces, instruction: BinaryInstruction) -> bool
 pub fn is_off_row(instruction: BinaryInstruction) -> bool
     ensures { λ r. ⌜ r ≡ isOffRow instruction ⌝ }
 {
-    let places = vm_tables::row_places(instruction.opcode);
+    let opcode = instruction.opcode;
+    let places = vm_tables::row_places(opcode);
     off_row(places, instruction)
 }
 
