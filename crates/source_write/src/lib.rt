@@ -52,8 +52,9 @@ fn first_off_row(bytecode: &[u8]) -> OffFound
     OffFound::Nothing
 }
 
-// How many bytes an instruction's row has, its line feed with it.
+// How many bytes an instruction's row of at most 82 has, its line feed with it.
 fn row_length(instruction: BinaryInstruction) -> usize
+    requires { ⌜ length (sourceRow instruction) ≤ 82 ⌝ }
     ensures { λ r. ⌜ r ≡ length (10 ∷ sourceRow instruction) ⌝ }
 {
     let mut row = [0u8; 82];
