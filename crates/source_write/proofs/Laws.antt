@@ -99,6 +99,10 @@ module _ (w d : List ℕ) (h : length w ≤ 82) (l : length d ≡ 82) (r : Put) 
     pub row-counted : n + 1 ≡ length (10 ∷ w)
     row-counted = add-one n ∙ ap suc (count-told d 0 w r e n f)
 
+-- a line feed and a row leave as many bytes
+pub row-kept : (d : List ℕ) (at : ℕ) (w b : List ℕ) → b ≡ putInto (set d at 10) (at + 1) w → length b ≡ length d
+row-kept d at w b e = ap length e ∙ length-put (set d at 10) (at + 1) w ∙ length-set d at 10
+
 module _ (d : List ℕ) (at : ℕ) (w : List ℕ) (h : at + length (10 ∷ w) ≤ length d) where
   -- the line feed has room
   pub feed-within : at < length d
@@ -128,7 +132,7 @@ module _ (d : List ℕ) (at : ℕ) (w : List ℕ) (h : at + length (10 ∷ w) �
 
 pub ruleset length-laws = (row-never-short, row-fits, row-counted, needs)
 
-pub ruleset row-laws = (feed-within, row-stored, row-never, row-end, row-end-fits, needs)
+pub ruleset row-laws = (row-kept, feed-within, row-stored, row-never, row-end, row-end-fits, needs)
 
 -- ---- source_fits and write_rows: the rows that are left from an offset on, where the last one ended at a byte
 module _ (text : List ℕ) (at end : ℕ) (inv : 5 + length (rowsText (instructionsFrom text 0)) ≡ end + length (rowsText (instructionsFrom text at))) where
