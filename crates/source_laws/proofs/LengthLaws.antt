@@ -23,7 +23,7 @@ use Rattle.decoder.specs.Lines.{lineHasSecond, lineGroups, isComplete, complete
 use Rattle.decoder.specs.Decode.{groupDecoded}
 use Rattle.decoder.specs.Open.{maxBytecodeBytes, allDecoded, opened}
 use Rattle.source.specs.SourceText.{sourceRow, sourceText}
-use Rattle.source_laws.proofs.RowLengths.{held, weighed, row-by-lines, row-by-bytes}
+use Rattle.source.proofs.RowLengths.{held, weighed, row-by-lines, row-by-bytes}
 
 -- ---- sums
 

@@ -4,5 +4,4 @@ pub mod PieceLaws
 pub mod PlaceLaws
 pub mod RowLaws
 pub mod AssembledLaws
-pub mod RowLengths
 pub mod LengthLaws

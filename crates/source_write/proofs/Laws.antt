@@ -41,8 +41,7 @@ use Rattle.source.specs.declared.SourceWritten.the-variants.{Is, Refused}
 use Rattle.source_write.specs.Rest.{instructionsFrom, rowsText, offOption}
 use Rattle.source_write.specs.declared.OffFound.{OffFound}
 use Rattle.source_write.specs.declared.OffFound.the-variants.{At, Nothing}
-use Rattle.source_write.proofs.RestLaws.{opened-from, rest-end, rest-none, rest-refused, rest-next, next-order, next-more, next-less, source-rows, source-long}
-use Rattle.source_write.proofs.RowLaws.{row-most}
+use Rattle.source_write.proofs.RestLaws.{opened-from, rest-end, rest-none, rest-refused, rest-next, next-short, next-more, next-less, source-rows, source-long}
 
 -- ---- first_off_row: what stands from an offset and its index on
 module _ (text : List ℕ) (index at : ℕ) (inv : firstOffRow 0 (instructionsFrom text 0) ≡ firstOffRow index (instructionsFrom text at)) where
@@ -85,8 +84,8 @@ module _ (text : List ℕ) (index at : ℕ) (inv : firstOffRow 0 (instructionsFr
 pub ruleset off-laws = (off-end, off-none, off-refused, index-next, off-here, off-later, next-less, needs)
 
 -- ---- row_length and write_row: w is a row
-module _ (w d : List ℕ) (h : length w ≤ 82) (l : length d ≡ 82) (r : Put) (e : r ≡ putCount d 0 w) where
-  -- it fits 82 bytes
+module _ (w d : List ℕ) (h : length w ≤ 40) (l : length d ≡ 40) (r : Put) (e : r ≡ putCount d 0 w) where
+  -- it fits 40 bytes
   pub row-never-short : r ≡ Short → ⊥
   row-never-short f = never-short d 0 w r e (omega arith) f
 
@@ -189,15 +188,11 @@ module _ (text : List ℕ) (at end : ℕ) (inv : 5 + length (rowsText (instructi
       pub row-within : (d t : List ℕ) → 5 + length (rowsText (instructionsFrom text 0)) ≤ length d → length t ≡ length d → end + length (10 ∷ sourceRow i) ≤ length t
       row-within d t l m = let z = next-long in omega arith
 
--- the row of an instruction that was read has at most 82 bytes
-pub row-short : (text : List ℕ) (at : ℕ) (r : InstructionAt) → atNumbered r ≡ readFrom 0 text at → (i : BinaryInstruction) (n next : ℕ) → r ≡ IsAt i n next → length (sourceRow i) ≤ 82
-row-short text at r e i n next h = row-most i (next-order text at r e i n next h)
+-- no room for the first k bytes of `main:`
+pub main-over : (room k : ℕ) (w : List ℕ) → room < k → leb k 5 ≡ true → false ≡ leb (5 + length w) room
+main-over room k w h l = let m = leb-true k 5 l in sym (lt-leb (5 + length w) room (omega arith))
 
--- no room for `main:`
-pub main-over : (room : ℕ) (w : List ℕ) → room < 5 → false ≡ leb (5 + length w) room
-main-over room w h = sym (lt-leb (5 + length w) room (omega arith))
-
-pub ruleset fit-laws = (main-over, fit-end, fit-none, fit-refused, rows-added, row-short, row-over, next-less, needs)
+pub ruleset fit-laws = (main-over, fit-end, fit-none, fit-refused, rows-added, next-short, row-over, next-less, needs)
 
 -- ---- write_rows: t is the text d when the rows before the offset are written
 module _ (text d t : List ℕ) (at end : ℕ) (inv : sets d 5 (rowsText (instructionsFrom text 0)) ≡ sets t end (rowsText (instructionsFrom text at))) where

@@ -1,3 +1,2 @@
 pub mod RestLaws
-pub mod RowLaws
 pub mod Laws

@@ -12,7 +12,6 @@ use Rattle.text.specs.Answer.{Answer, ok, refused, _>>=_, onOk}
 use Rattle.text.proofs.AnswerLaws.{ok-same, ok-bind, if-passed, at-passed}
 use Rattle.program.specs.Groups.{Group, grouped}
 use Rattle.program.specs.Bytecode.{joined}
-use Rattle.program.specs.CanonicalForm.{InOrder}
 use Rattle.program.specs.declared.BinaryInstruction.{BinaryInstruction}
 use Rattle.decoder.specs.Lines.{lineHasSecond, lineGroups, isComplete, completeOf}
 use Rattle.decoder.specs.Decode.{decoded, onFirst, groupDecoded}
@@ -31,6 +30,7 @@ use Rattle.decoder_lines.proofs.AtLaws.{at-past}
 use Rattle.decoder_lines.proofs.GroupLaws.{lineAt, groupsFrom, nothing-groups, unreadable-first, unreadable-groups, incomplete-first, incomplete-groups, single-first, single-alone, single-groups, single-more, single-within, pair-first, pair-two, pair-groups, pair-more, pair-within}
 use Rattle.decoder_lines.proofs.ReadLaws.{reads-nothing, reads-unreadable, reads-incomplete, reads-single, reads-pair}
 use Rattle.source.specs.SourceText.{sourceRow, sourceText}
+use Rattle.source.proofs.RowLengths.{read-most}
 use Rattle.source_write.specs.Rest.{readInOrder, instructionsFrom, rowsText}
 
 -- ---- the first of groups
@@ -115,13 +115,13 @@ module _ (text : List ℕ) (at : ℕ) where
   -- what an answer says of what is left: an instruction and what is left behind it, or nothing
   abbrev Says : Answer ReadAt → Type 0
   Says (ok r) =
-      (instructionsFrom text at ≡ r .instruction ∷ instructionsFrom text (r .offset)) × InOrder (r .instruction) × (at < r .offset) × (r .offset ≤ length text)
+      (instructionsFrom text at ≡ r .instruction ∷ instructionsFrom text (r .offset)) × (length (sourceRow (r .instruction)) ≤ 40) × (at < r .offset) × (r .offset ≤ length text)
   Says (refused n d) = instructionsFrom text at ≡ []
 
   complete-says : (g : Group (List ℕ)) (n next : ℕ) → groupsFrom text at ≡ g ∷ groupsFrom text next → isComplete g ≡ true → (at < next) × (next ≤ length text)
       → (a : Answer BinaryInstruction) → groupDecoded 0 g ≡ a → Says (readAs a n next)
   unfolding readAs _>>=_
-  complete-says g n next e c l (ok i) p = (from-as _ e ∙ first-read g (groupsFrom text next) c i p, outcome-read _ (group-outcome g c) 0 i p .order, l .0, l .1)
+  complete-says g n next e c l (ok i) p = (from-as _ e ∙ first-read g (groupsFrom text next) c i p, read-most _ i (outcome-read _ (group-outcome g c) 0 i p), l .0, l .1)
   complete-says g n next e c l (refused m d) p = from-as _ e ∙ first-refused g (groupsFrom text next) c m d p
 
   -- so does the instruction from there on
@@ -177,9 +177,9 @@ module _ (text : List ℕ) (at : ℕ) where
       pub rest-next : instructionsFrom text at ≡ i ∷ instructionsFrom text next
       rest-next = subst Says (ap atNumbered h) told .0
 
-      -- its numbers are below p
-      pub next-order : InOrder i
-      next-order = subst Says (ap atNumbered h) told .1
+      -- its row is short
+      pub next-short : length (sourceRow i) ≤ 40
+      next-short = subst Says (ap atNumbered h) told .1
 
       -- what is left behind it begins further on
       pub next-more : at < next

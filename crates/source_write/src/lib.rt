@@ -52,12 +52,12 @@ fn first_off_row(bytecode: &[u8]) -> OffFound
     OffFound::Nothing
 }
 
-// How many bytes an instruction's row of at most 82 has, its line feed with it.
+// How many bytes an instruction's row has, its line feed with it. The row of one that was read has at most 40.
 fn row_length(instruction: BinaryInstruction) -> usize
-    requires { ⌜ length (sourceRow instruction) ≤ 82 ⌝ }
+    requires { ⌜ length (sourceRow instruction) ≤ 40 ⌝ }
     ensures { λ r. ⌜ r ≡ length (10 ∷ sourceRow instruction) ⌝ }
 {
-    let mut row = [0u8; 82];
+    let mut row = [0u8; 40];
     let put = source_rows::put_source_row(&mut row, 0, instruction);
     match put {
         Put::Count(n) => n + 1,

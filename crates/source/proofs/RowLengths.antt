@@ -134,8 +134,8 @@ content-most (RegisterWithFactor r v) (below h) = let d = decimal-below (v .numb
 content-most (SpecialReg PC) h = lit≤ tt
 content-most (SpecialReg PSP) h = lit≤ tt
 
--- the row of any instruction read
-read-most : (f : ℕ → Answer BinaryInstruction) (i : BinaryInstruction) → WasRead f i → length (sourceRow i) ≤ 40
+-- the row of any instruction read has at most 40 bytes
+pub read-most : (f : ℕ → Answer BinaryInstruction) (i : BinaryInstruction) → WasRead f i → length (sourceRow i) ≤ 40
 read-most f i r =
     let p = form-most (asCanonical i) (r .form) in
     let a = row-most i (p .0) (p .1) in
