@@ -5,3 +5,5 @@ pub mod PlaceLaws
 pub mod RowLaws
 pub mod AssembledLaws
 pub mod LengthLaws
+pub mod CanonicalLaws
+pub mod OffRowLaws
