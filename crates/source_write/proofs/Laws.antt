@@ -1,11 +1,10 @@
 -- Laws of the passes over a bytecode and of the writers, in the shapes in which the functions ask for them.
 use Prim.Native.Nat.{ℕ, suc, _+_, _-_, _*_, _^_, _<_, _≤_}
 use mathlib.Core.Path.{_≡_, refl, sym, ap, _∙_}
-use mathlib.Core.List.{List, [], _∷_, _++_}
+use mathlib.Core.List.{List, [], _∷_}
 use mathlib.Core.Bool.{Bool, true, false, not}
 use mathlib.Core.Option.{none, some}
 use native.Mathlib.Omega.{arith}
-use native.Mathlib.Nat.{zero-add}
 use native.Mathlib.Numerals.{add-one}
 use borrow.Author.Needs.{needs}
 use borrow.Author.Tests.{le-leb, lt-leb, leb-true, leb-false}
@@ -21,7 +20,7 @@ use Rattle.text.proofs.AnswerLaws.{not-ok}
 use Rattle.text_write.specs.declared.Put.{Put}
 use Rattle.text_write.specs.declared.Put.the-variants.{Count, Short}
 use Rattle.text_write.specs.Put.{putCount, putInto}
-use Rattle.text_write.proofs.Laws.{sets-append, put-fits, length-put, count-told, never-short, told-adds}
+use Rattle.text_write.proofs.Laws.{sets-append, put-fits, length-put, count-told, never-short}
 use Rattle.program.specs.Bytecode.{within, textLeft}
 use Rattle.program.specs.declared.BinaryInstruction.{BinaryInstruction}
 use Rattle.program_bytecode.specs.Written.{countOf}
@@ -155,6 +154,7 @@ module _ (text : List ℕ) (at end : ℕ) (inv : 5 + length (rowsText (instructi
     pub rows-none : r ≡ NoneLeft → end ≡ 5 + length (rowsText (instructionsFrom text 0))
     rows-none h = all-passed (rest-none text at r e h)
 
+    -- and the rows fit
     pub fit-none : (room : ℕ) → end ≤ room → r ≡ NoneLeft → true ≡ leb (5 + length (rowsText (instructionsFrom text 0))) room
     fit-none room k h = all-inside room k (rows-none h)
 
@@ -162,6 +162,7 @@ module _ (text : List ℕ) (at end : ℕ) (inv : 5 + length (rowsText (instructi
     pub rows-refused : (f : OpenRefusal) → r ≡ RefusedAt f → end ≡ 5 + length (rowsText (instructionsFrom text 0))
     rows-refused f h = all-passed (rest-refused text at r e f h)
 
+    -- and the rows fit
     pub fit-refused : (room : ℕ) (f : OpenRefusal) → end ≤ room → r ≡ RefusedAt f → true ≡ leb (5 + length (rowsText (instructionsFrom text 0))) room
     fit-refused room f k h = all-inside room k (rows-refused f h)
 
@@ -292,11 +293,11 @@ module _ (text d : List ℕ) (o : Opening) (e : openNumbered o ≡ acceptedOf (o
         go (refused n k) p q = absurd (not-ok (sym q))
 
     module _ (a : OffFound) (f : offOption a ≡ firstOffRow 0 (instructionsFrom text 0)) where
-      -- 26
       off-written : (k : ℕ) → a ≡ At k → sourceWritten text (length d) ≡ refused 26 k
       unfolding sourceWritten _>>=_ _>>_ refuseAt
       off-written k g = rw (opens, sym f ∙ ap offOption g) refl
 
+      -- 26
       pub off-answer : (k : ℕ) → a ≡ At k → refused 26 k ≡ countOf (sourceWritten text (length d))
       unfolding _>>=_
       off-answer k g = sym (ap countOf (off-written k g))
@@ -306,14 +307,15 @@ module _ (text d : List ℕ) (o : Opening) (e : openNumbered o ≡ acceptedOf (o
       unfolding onOk
       off-kept k g = sym (ap (λ (x : Answer (List ℕ)). textLeft x d) (off-written k g))
 
-      -- otherwise the source, where there is room
       on-written : a ≡ Nothing → sourceWritten text (length d) ≡ within (length d) (sourceText (instructionsFrom text 0))
       unfolding sourceWritten _>>=_ _>>_ refuseAt
       on-written g = rw (opens, sym f ∙ ap offOption g) refl
 
+      -- otherwise what the source's writer answers
       pub on-answer : (w : SourceWritten) → a ≡ Nothing → sourceNumbered w ≡ countOf (within (length d) (sourceText (instructionsFrom text 0))) → sourceNumbered w ≡ countOf (sourceWritten text (length d))
       on-answer w g p = p ∙ sym (ap countOf (on-written g))
 
+      -- and what it leaves
       pub on-text : (b : List ℕ) → a ≡ Nothing → b ≡ textLeft (within (length d) (sourceText (instructionsFrom text 0))) d → b ≡ textLeft (sourceWritten text (length d)) d
       on-text b g p = p ∙ sym (ap (λ (x : Answer (List ℕ)). textLeft x d) (on-written g))
 
