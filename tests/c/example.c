@@ -996,8 +996,13 @@ static void longest_source(void)
     for (size_t i = 0; i < 3854; i++)
         right = right && many[i] == UINT64_C(0x40);
     say("assemble_parts: their words", right);
+    memset(many, 0, sizeof many);
     a = ola_assemble(source, w.written, bytes(""), 0, table, 1, many, 3854, hosts, 0);
-    say("assemble: likewise", assembly_is(a, 0, 0, 1, 3854, 0, 0));
+    right = assembly_is(a, 0, 0, 1, 3854, 0, 0);
+    for (size_t i = 0; i < 3854; i++)
+        right = right && many[i] == UINT64_C(0x40);
+    say("assemble: their words, and main in the table",
+        right && table[0].kind == 0 && table[0].mapped && table[0].start == 0 && table[0].length == 4 && table[0].address == 0);
     w = ola_write_source(bytecode, 3 * 3855 - 1, source, sizeof source);
     say("write_source: 65,540 bytes of 3,855 lines", w.refusal == 0 && w.written == 65540);
     a = ola_assemble_parts(source, w.written, bytes(""), 0, kinds, 1, mapped, 1, starts, 1, lengths, 1, addresses, 1, many, 3854, hosts, 0);

@@ -36,7 +36,7 @@ use Rattle.program_listing.specs.declared.RowWritten.the-variants.{Is as IsRow,
 use Rattle.program_encode.specs.Encoding.{encodingNumbered}
 use Rattle.program_encode.specs.declared.Encoding.{Encoding}
 use Rattle.program_encode.specs.declared.Encoding.the-variants.{Is as IsEncoded, Refused as NotEncoded}
-use Rattle.source.specs.SourceText.{sourceNumber, sourceDetail, sourceNumbered}
+use Rattle.source.specs.SourceText.{sourceRefusalNumber, sourceRefusalDetail, sourceNumbered}
 use Rattle.source.specs.declared.SourceRefusal.{SourceRefusal}
 use Rattle.source.specs.declared.SourceWritten.{SourceWritten}
 use Rattle.source.specs.declared.SourceWritten.the-variants.{Is as IsSource, Refused as NoSource}
@@ -103,7 +103,7 @@ module _ (a : SourceWritten) where
   pub source-is : (r : OlaWritten) (n : ℕ) → a ≡ IsSource n → r ≡ writtenOf (ok n) → r ≡ writtenOf (sourceNumbered a)
   source-is r n e w = rw (w, e)
 
-  pub source-not : (f : SourceRefusal) (n d : ℕ) → a ≡ NoSource f → n ≡ sourceNumber f → d ≡ sourceDetail f
+  pub source-not : (f : SourceRefusal) (n d : ℕ) → a ≡ NoSource f → n ≡ sourceRefusalNumber f → d ≡ sourceRefusalDetail f
       → record { refusal = n; detail = d; written = 0 } ≡ writtenOf (sourceNumbered a)
   source-not f n d e g h = rw (e, g, h)
 

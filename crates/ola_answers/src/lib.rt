@@ -22,7 +22,7 @@ ghost use Rattle.program.specs.Refusals.{rowNumber, encodeNumber, encodeDetail}
 ghost use Rattle.program_bytecode.specs.Written.{writtenNumbered};
 ghost use Rattle.program_encode.specs.Encoding.{encodingNumbered};
 ghost use Rattle.program_listing.specs.Row.{rowNumbered};
-ghost use Rattle.source.specs.SourceText.{sourceNumber, sourceDetail, sourceNumbered};
+ghost use Rattle.source.specs.SourceText.{sourceRefusalNumber, sourceRefusalDetail, sourceNumbered};
 ghost use Rattle.ola_answers.specs.Answers.{assemblyOf, meteredOf, figuresOut, writtenOf, encodingOf, nameOf};
 
 #[repr(C)]
@@ -191,7 +191,7 @@ pub fn row_out(answer: RowWritten) -> OlaWritten
 
 // The number of a refusal to write source.
 fn source_number(refusal: SourceRefusal) -> u64
-    ensures { λ r. ⌜ r ≡ sourceNumber refusal ⌝ }
+    ensures { λ r. ⌜ r ≡ sourceRefusalNumber refusal ⌝ }
 {
     match refusal {
         SourceRefusal::Open(inner) => ola_steps::open_number(inner),
@@ -202,7 +202,7 @@ fn source_number(refusal: SourceRefusal) -> u64
 
 // And its detail.
 fn source_detail(refusal: SourceRefusal) -> u64
-    ensures { λ r. ⌜ r ≡ sourceDetail refusal ⌝ }
+    ensures { λ r. ⌜ r ≡ sourceRefusalDetail refusal ⌝ }
 {
     match refusal {
         SourceRefusal::Open(inner) => ola_steps::open_detail(inner),

@@ -55,7 +55,7 @@ pub extern "C" fn ola_room_of(source: &[u8]) -> OlaRoom
 // Assembles a source with a prophet list over parallel arrays.
 // Promises: counts-answered, words-left, columns-left, same-words, same-bytecode, one-program, words-ahead, accepted-has-rows, lengths-are-one,
 // addresses-are-positions, instructions-stand, names-are-word-counts, table-is-positions, later-kept, kept-counted, rows-by-lines, same-lines, room-is-built,
-// room-refused, room-suffices, room-never-short.
+// room-refused, room-suffices, room-never-short, source-assembles, source-reads-again, no-row-reads-so, source-same-words.
 #[no_mangle]
 pub extern "C" fn ola_assemble_parts(
     source: &[u8],
@@ -94,7 +94,7 @@ pub extern "C" fn ola_assemble_parts(
 // Assembles a source with a prophet list over a table of entries.
 // Promises: counts-answered, words-left, table-left, same-words, same-bytecode, one-program, words-ahead, accepted-has-rows, lengths-are-one,
 // addresses-are-positions, instructions-stand, names-are-word-counts, table-is-positions, later-kept, kept-counted, rows-by-lines, same-lines, room-is-built,
-// room-refused, room-suffices, room-never-short.
+// room-refused, room-suffices, room-never-short, source-assembles, source-reads-again, no-row-reads-so, source-same-words.
 #[no_mangle]
 pub extern "C" fn ola_assemble(
     source: &[u8],
@@ -175,8 +175,8 @@ pub extern "C" fn ola_write_bytecode(words: &[u64], text: &mut [u8]) -> OlaWritt
 }
 
 // Writes a source of a bytecode's instructions.
-// Promises: source-refused, first-off-row, source-written, source-left, source-assembles, source-of-accepted, source-same-words, source-fits,
-// no-row-reads-so.
+// Promises: source-left, source-refused, first-off-row, source-written, source-fits, source-assembles, source-words-fit, source-reads-again,
+// source-of-accepted.
 #[no_mangle]
 pub extern "C" fn ola_write_source(bytecode: &[u8], text: &mut [u8]) -> OlaWritten
     ensures { λ r. ⌜ r ≡ writtenOf (countOf (sourceWritten (now (bytecode .entry)) (length (now (text .entry))))) ⌝ }

@@ -97,17 +97,17 @@ sourceWritten bytecode room = do
   refuseAt (firstOffRow 0 is) 26
   within room (sourceText is)
 
-abbrev pub sourceNumber : SourceRefusal → ℕ
-sourceNumber (Open f) = openNumber f
-sourceNumber (OffRow index) = 26
-sourceNumber TextTooShort = 23
+abbrev pub sourceRefusalNumber : SourceRefusal → ℕ
+sourceRefusalNumber (Open f) = openNumber f
+sourceRefusalNumber (OffRow index) = 26
+sourceRefusalNumber TextTooShort = 23
 
-abbrev pub sourceDetail : SourceRefusal → ℕ
-sourceDetail (Open f) = openDetail f
-sourceDetail (OffRow index) = index
-sourceDetail TextTooShort = 0
+abbrev pub sourceRefusalDetail : SourceRefusal → ℕ
+sourceRefusalDetail (Open f) = openDetail f
+sourceRefusalDetail (OffRow index) = index
+sourceRefusalDetail TextTooShort = 0
 
 -- an answer by its number and detail, or its count
 abbrev pub sourceNumbered : SourceWritten → Answer ℕ
 sourceNumbered (Is n) = ok n
-sourceNumbered (Refused f) = refused (sourceNumber f) (sourceDetail f)
+sourceNumbered (Refused f) = refused (sourceRefusalNumber f) (sourceRefusalDetail f)

@@ -108,12 +108,8 @@ canonical-full o e (RegisterWithFactor r v) = refl
 canonical-full o e (SpecialReg PC) = refl
 canonical-full o e (SpecialReg PSP) = ap (λ (t : Bool). isFull (cond t Empty (SpecialReg PSP))) (bare-not-mov o e)
 
--- mov's psp taken as empty is written psp: the source row stays
-pub row-as-canonical : (i : BinaryInstruction) → sourceRow (asCanonical i) ≡ sourceRow i
-row-as-canonical = row-changed op1AsCanonical canonical-alike
-
 -- and is off its row just if it was
-pub off-as-canonical : (i : BinaryInstruction) → isOffRow (asCanonical i) ≡ isOffRow i
+off-as-canonical : (i : BinaryInstruction) → isOffRow (asCanonical i) ≡ isOffRow i
 off-as-canonical = off-changed op1AsCanonical canonical-full
 
 -- the source text of instructions as canonical is theirs
@@ -134,7 +130,7 @@ canonical-below o (SpecialReg PSP) h = go (isMov o)
     go false = no-number
 
 -- numbers below p stay so
-pub order-as-canonical : (i : BinaryInstruction) → InOrder i → InOrder (asCanonical i)
+order-as-canonical : (i : BinaryInstruction) → InOrder i → InOrder (asCanonical i)
 order-as-canonical i h = record { op0 = h .op0; op1 = canonical-below (i .opcode) (i .op1) (h .op1); dst = h .dst }
 
 -- where every instruction has numbers below p, so has every one as canonical
@@ -167,12 +163,8 @@ read-full o e (RegisterWithOffset r v) = refl
 read-full o e (RegisterWithFactor r v) = refl
 read-full o e (SpecialReg s) = refl
 
--- an empty place is written psp: the source row of an instruction as it reads is its own
-pub row-as-read : (i : BinaryInstruction) → sourceRow (asRead i) ≡ sourceRow i
-row-as-read = row-changed op1AsRead read-alike
-
 -- and it is off its row just if the instruction is
-pub off-as-read : (i : BinaryInstruction) → isOffRow (asRead i) ≡ isOffRow i
+off-as-read : (i : BinaryInstruction) → isOffRow (asRead i) ≡ isOffRow i
 off-as-read = off-changed op1AsRead read-full
 
 -- the source text of instructions as they read is theirs

@@ -1,5 +1,5 @@
 -- How long a written source can be: 5 bytes, and 21 for each line of the bytecode; and 2,970,976 for any bytecode that opens.
-use Prim.Native.Nat.{ℕ, suc, _+_, _-_, _*_, _≤_}
+use Prim.Native.Nat.{ℕ, suc, _+_, _*_, _≤_}
 use mathlib.Core.Path.{_≡_, refl, subst}
 use mathlib.Core.List.{List, [], _∷_, map}
 use mathlib.Core.Bool.{Bool, true, false, cond}
@@ -7,14 +7,14 @@ use mathlib.Core.Option.{Option, none, some}
 use native.Mathlib.Omega.{arith}
 use native.Mathlib.Nat.{mul-add}
 use borrow.Author.Tests.{ltb-false}
-use lib.ListN.{length, take, length-append}
-use lib.Seq.{length-take-le}
+use lib.ListN.{length, length-append}
 use Rattle.text.specs.Bytes.{bytes}
 use Rattle.text.specs.Lists.{total}
 use Rattle.text.specs.Scan.{parts, isEmpty}
-use Rattle.text.specs.Lines.{isFeed, endsInReturn, withoutReturn, ended, lines}
+use Rattle.text.specs.Lines.{isFeed, ended, lines}
 use Rattle.text.specs.Answer.{ok}
 use Rattle.text.proofs.AnswerLaws.{ok-same, ok-bind, if-passed, at-passed}
+use Rattle.text.proofs.PartLaws.{without-return-le}
 use Rattle.text.proofs.SumLaws.{total-most, spaced, parts-total}
 use Rattle.program.specs.Groups.{Group, grouped}
 use Rattle.program.specs.Bytecode.{joined}
@@ -23,7 +23,7 @@ use Rattle.decoder.specs.Lines.{lineHasSecond, lineGroups, isComplete, complete
 use Rattle.decoder.specs.Decode.{groupDecoded}
 use Rattle.decoder.specs.Open.{maxBytecodeBytes, allDecoded, opened}
 use Rattle.source.specs.SourceText.{sourceRow, sourceText}
-use Rattle.source.proofs.RowLengths.{held, weighed, row-by-lines, row-by-bytes}
+use Rattle.source_laws.proofs.RowLengths.{held, weighed, row-by-lines, row-by-bytes}
 
 -- ---- sums
 
@@ -31,13 +31,6 @@ total-times : {A : Type 0} (c : ℕ) (f : A → ℕ) (xs : List A) → total (ma
 unfolding total
 total-times c f [] = omega arith
 total-times c f (x ∷ xs) = let h = total-times c f xs in let d = mul-add c (f x) (total (map f xs)) in omega arith
-
-without-return-le : (l : List ℕ) → length (withoutReturn l) ≤ length l
-without-return-le l = go (endsInReturn l)
-  where
-    go : (t : Bool) → length (cond t (take (length l - 1) l) l) ≤ length l
-    go true = let e = length-take-le (length l - 1) l (omega arith) in omega arith
-    go false = omega arith
 
 ended-total : (ls : List (List ℕ)) → total (map spaced (ended ls)) ≤ total (map spaced ls)
 unfolding ended total

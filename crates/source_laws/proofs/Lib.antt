@@ -1,9 +1,9 @@
 pub mod ReadsAs
-pub mod DecimalLaws
 pub mod PieceLaws
 pub mod PlaceLaws
 pub mod RowLaws
 pub mod AssembledLaws
+pub mod RowLengths
 pub mod LengthLaws
 pub mod CanonicalLaws
 pub mod OffRowLaws

@@ -40,7 +40,7 @@ use Rattle.source.specs.SourceText.{sourceText, isFull, offRow, isOffRow, first
 -- ---- the first that is off its row
 
 -- instruction k is off its row, and none before it is
-abbrev pub FirstOff : List BinaryInstruction → ℕ → Type 0
+abbrev FirstOff : List BinaryInstruction → ℕ → Type 0
 FirstOff is k =
     (i : BinaryInstruction) × (getElem? is k ≡ some i) × (isOffRow i ≡ true)
     × ((j : ℕ) → j < k → (b : BinaryInstruction) → getElem? is j ≡ some b → isOffRow b ≡ false)

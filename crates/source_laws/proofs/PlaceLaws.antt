@@ -1,11 +1,12 @@
 -- Each place of a written row reads as its operand: a register, psp, a number, `[rA,n]` and `[rA,rB,n]`.
-use Prim.Native.Nat.{ℕ, suc, _+_, _-_, _<_, _≤_}
+use Prim.Native.Nat.{ℕ, suc, _+_, _-_, _^_, _<_, _≤_}
 use mathlib.Core.Path.{_≡_, refl, ap, ap₂, _∙_}
 use mathlib.Core.List.{List, [], _∷_, _++_}
 use mathlib.Core.Bool.{Bool, true, false, _&&_, cond, and-eq-true-iff, true≢false}
 use native.Mathlib.Omega.{arith}
+use native.Mathlib.Nat.{lt-trans}
 use borrow.Author.Tests.{le-leb, leb-true, ne-eqb}
-use lib.Dec.{eqb, leb}
+use lib.Dec.{eqb, leb, lit<}
 use lib.ListN.{length, getD, length-append}
 use lib.Seq.{take-append-seam}
 use Rattle.text.specs.Bytes.{bytes, isDigit, same}
@@ -25,7 +26,7 @@ use Rattle.asm.specs.Operands.{shapes, firstMatch, operandOf, isSourceNumber, s
 use Rattle.asm.specs.declared.OperandRead.the-variants.{Is}
 use Rattle.asm.specs.declared.OlaAsmOperand.{OlaAsmOperand}
 use Rattle.asm.specs.declared.OlaAsmOperand.the-variants.{ImmediateOperand, RegisterOperand, RegisterWithOffset, RegisterWithFactoredRegOffset, SpecialReg}
-use Rattle.source_laws.proofs.DecimalLaws.{decimal-all, decimal-some, decimal-shaped, decimal-read}
+use Rattle.asm_laws.proofs.SpellingLaws.{all-digits, some-digit, written-number, printed-reads}
 use Rattle.source_laws.proofs.PieceLaws.{isPlain, Piece, all-else, all-joined}
 
 -- a piece that reads as an operand, wherever it starts
@@ -80,15 +81,18 @@ no-register x s d = rw (other-byte isDigit x 114 d refl) (go (eqb (length (x ∷
     go true = refl
     go false = refl
 
--- a text of digits that is the number v
+-- a text of digits that is the number v, as numbers in decimal are
 record Spells (t : List ℕ) (v : ImmediateValue) : Type 0 where
   pub some : isEmpty t ≡ false
   pub digits : all isDigit t ≡ true
   pub shaped : isSourceNumber t ≡ true
   pub value : sourceNumber t ≡ IsNumber v
 
-decimal-spells : (v : ImmediateValue) → v .number < order → Spells (decimalText (v .number)) v
-decimal-spells v h = let n = v .number in record { some = decimal-some n; digits = decimal-all n; shaped = decimal-shaped n; value = decimal-read n h }
+decimal-read : (v : ImmediateValue) → v .number < order → Spells (decimalText (v .number)) v
+decimal-read v h =
+    let n : ℕ = v .number in
+    let w : n < 2 ^ 64 = lt-trans h (lit< tt) in
+    record { some = some-digit n w; digits = all-digits n w; shaped = written-number n w; value = printed-reads 16 n (omega arith) (omega arith) w h .1 }
 
 first-digit : (x : ℕ) (s : List ℕ) → all isDigit (x ∷ s) ≡ true → isDigit x ≡ true
 unfolding all
@@ -102,8 +106,8 @@ number-read i (x ∷ s) v h = let d = first-digit x s (h .digits) in rw (other-b
 -- a number in decimal reads as the number
 pub number-reads : (v : ImmediateValue) → v .number < order → Reads (decimalText (v .number)) (ImmediateOperand v)
 number-reads v h = record {
-  piece = record { some = decimal-some (v .number); plain = all-else isDigit isPlain digit-plain (decimalText (v .number)) (decimal-all (v .number)) };
-  read = λ i. number-read i (decimalText (v .number)) v (decimal-spells v h);
+  piece = record { some = decimal-read v h .some; plain = all-else isDigit isPlain digit-plain (decimalText (v .number)) (decimal-read v h .digits) };
+  read = λ i. number-read i (decimalText (v .number)) v (decimal-read v h);
 }
 
 -- ---- brackets
@@ -144,8 +148,8 @@ pub offset-reads : (a : OlaRegister) (v : ImmediateValue) → v .number < order
     → Reads (bytes "[" ++ registerText a ++ bytes "," ++ decimalText (v .number) ++ bytes "]") (RegisterWithOffset a v)
 unfolding all
 offset-reads a v h = record {
-  piece = record { some = refl; plain = rw (digit-plain (digitOf a) (register-digit a)) (closed-plain (decimalText (v .number)) (decimal-all (v .number))) };
-  read = λ i. offset-read i (digitOf a) (decimalText (v .number)) v (register-digit a) (decimal-spells v h) ∙ ap (λ (r : OlaRegister). Is (RegisterWithOffset r v)) (register-back a);
+  piece = record { some = refl; plain = rw (digit-plain (digitOf a) (register-digit a)) (closed-plain (decimalText (v .number)) (decimal-read v h .digits)) };
+  read = λ i. offset-read i (digitOf a) (decimalText (v .number)) v (register-digit a) (decimal-read v h) ∙ ap (λ (r : OlaRegister). Is (RegisterWithOffset r v)) (register-back a);
 }
 
 -- two registers and a number in brackets read as the register with a factored one
@@ -155,9 +159,9 @@ unfolding all
 factored-reads a b v h = record {
   piece = record {
     some = refl;
-    plain = rw (digit-plain (digitOf a) (register-digit a), digit-plain (digitOf b) (register-digit b)) (closed-plain (decimalText (v .number)) (decimal-all (v .number)));
+    plain = rw (digit-plain (digitOf a) (register-digit a), digit-plain (digitOf b) (register-digit b)) (closed-plain (decimalText (v .number)) (decimal-read v h .digits));
   };
   read = λ i.
-      factored-read i (digitOf a) (digitOf b) (decimalText (v .number)) v (register-digit a) (register-digit b) (decimal-spells v h)
+      factored-read i (digitOf a) (digitOf b) (decimalText (v .number)) v (register-digit a) (register-digit b) (decimal-read v h)
       ∙ ap₂ (λ (r s : OlaRegister). Is (RegisterWithFactoredRegOffset r s v)) (register-back a) (register-back b);
 }

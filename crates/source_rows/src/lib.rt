@@ -228,7 +228,7 @@ fn put_places(row: &mut [u8], at: usize, places: RowPlaces, instruction: BinaryI
 }
 
 // Writes the source row of an instruction at byte `at` where it fits, and says how many bytes; otherwise leaves the text as it is.
-// Promises: source-written, source-left, source-assembles.
+// Promises: source-written.
 pub fn put_source_row(text: &mut [u8], at: usize, instruction: BinaryInstruction) -> Put
     ensures { λ r. ⌜ (r ≡ putCount (now (text .entry)) at (sourceRow instruction)) × (now (text .exit) ≡ putInto (now (text .entry)) at (sourceRow instruction)) ⌝ }
 {

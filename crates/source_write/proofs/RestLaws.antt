@@ -27,10 +27,10 @@ use Rattle.decoder_lines.specs.declared.GroupAt.the-variants.{Nothing, Unreadab
 use Rattle.decoder_lines.specs.declared.InstructionAt.{InstructionAt}
 use Rattle.decoder_lines.specs.declared.InstructionAt.the-variants.{NoneLeft, Refused, Is}
 use Rattle.decoder_lines.proofs.AtLaws.{at-past}
-use Rattle.decoder_lines.proofs.GroupLaws.{lineAt, groupsFrom, nothing-groups, unreadable-first, unreadable-groups, incomplete-first, incomplete-groups, single-first, single-alone, single-groups, single-more, single-within, pair-first, pair-two, pair-groups, pair-more, pair-within}
+use Rattle.decoder_lines.proofs.GroupLaws.{lineAt, groupsFrom, nothing-groups, unreadable-first, unreadable-groups, incomplete-first, incomplete-groups, single-first, single-alone, single-groups, single-more, pair-first, pair-two, pair-groups, pair-more}
 use Rattle.decoder_lines.proofs.ReadLaws.{reads-nothing, reads-unreadable, reads-incomplete, reads-single, reads-pair}
 use Rattle.source.specs.SourceText.{sourceRow, sourceText}
-use Rattle.source.proofs.RowLengths.{read-most}
+use Rattle.source_laws.proofs.RowLengths.{read-most}
 use Rattle.source_write.specs.Rest.{readInOrder, instructionsFrom, rowsText}
 
 -- ---- the first of groups
@@ -115,13 +115,13 @@ module _ (text : List ℕ) (at : ℕ) where
   -- what an answer says of what is left: an instruction and what is left behind it, or nothing
   abbrev Says : Answer ReadAt → Type 0
   Says (ok r) =
-      (instructionsFrom text at ≡ r .instruction ∷ instructionsFrom text (r .offset)) × (length (sourceRow (r .instruction)) ≤ 40) × (at < r .offset) × (r .offset ≤ length text)
+      (instructionsFrom text at ≡ r .instruction ∷ instructionsFrom text (r .offset)) × (length (sourceRow (r .instruction)) ≤ 40) × (at < r .offset)
   Says (refused n d) = instructionsFrom text at ≡ []
 
-  complete-says : (g : Group (List ℕ)) (n next : ℕ) → groupsFrom text at ≡ g ∷ groupsFrom text next → isComplete g ≡ true → (at < next) × (next ≤ length text)
+  complete-says : (g : Group (List ℕ)) (n next : ℕ) → groupsFrom text at ≡ g ∷ groupsFrom text next → isComplete g ≡ true → at < next
       → (a : Answer BinaryInstruction) → groupDecoded 0 g ≡ a → Says (readAs a n next)
   unfolding readAs _>>=_
-  complete-says g n next e c l (ok i) p = (from-as _ e ∙ first-read g (groupsFrom text next) c i p, read-most _ i (outcome-read _ (group-outcome g c) 0 i p), l .0, l .1)
+  complete-says g n next e c l (ok i) p = (from-as _ e ∙ first-read g (groupsFrom text next) c i p, read-most _ i (outcome-read _ (group-outcome g c) 0 i p), l)
   complete-says g n next e c l (refused m d) p = from-as _ e ∙ first-refused g (groupsFrom text next) c m d p
 
   -- so does the instruction from there on
@@ -144,7 +144,7 @@ module _ (text : List ℕ) (at : ℕ) where
           let h = single-alone text at w next e in
           subst Says (reads-single 0 text at (groupAt text at) refl w next e (decoded 0 w none) refl (readAs (decoded 0 w none) 1 next) refl)
           (complete-says (record { first = lineAt text at; second = none }) 1 next (single-groups text at w next e) (rw (f, h))
-          (single-more text at w next e, single-within text at w next e) (decoded 0 w none) (rw f))
+          (single-more text at w next e) (decoded 0 w none) (rw f))
       go (Pair w start n next) e =
           let f = pair-first text at w start n next e in
           let h = pair-two text at w start n next e in
@@ -153,7 +153,7 @@ module _ (text : List ℕ) (at : ℕ) where
           let j : start + n - start ≡ n = omega arith in
           subst Says (reads-pair 0 text at (groupAt text at) refl w start n next e (decoded 0 w (some l)) (rw j) (readAs (decoded 0 w (some l)) 2 next) refl)
           (complete-says (record { first = lineAt text at; second = some l }) 2 next (pair-groups text at w start n next e) (rw (f, h))
-          (omega arith, pair-within text at w start n next e) (decoded 0 w (some l)) (rw f))
+          (omega arith) (decoded 0 w (some l)) (rw f))
 
   -- past the end nothing is left
   pub rest-end : length text ≤ at → instructionsFrom text at ≡ []
@@ -184,10 +184,6 @@ module _ (text : List ℕ) (at : ℕ) where
       -- what is left behind it begins further on
       pub next-more : at < next
       next-more = subst Says (ap atNumbered h) told .2
-
-      -- and within the text
-      pub next-within : next ≤ length text
-      next-within = subst Says (ap atNumbered h) told .3
 
       -- so less is left
       pub next-less : at < length text → length text - next < length text - at

@@ -145,8 +145,8 @@ fn write_fitting(bytecode: &[u8], text: &mut [u8]) -> SourceWritten
 }
 
 // Writes the source of a bytecode, `main:` and a row for each instruction, or says why not and leaves the text as it is: 14 to 19, then 26, then 23.
-// Promises: source-refused, first-off-row, source-written, source-left, source-assembles, source-of-accepted, source-same-words, source-fits,
-// no-row-reads-so.
+// Promises: source-left, source-refused, first-off-row, source-written, source-fits, source-assembles, source-words-fit, source-reads-again,
+// source-of-accepted.
 pub fn write_source(bytecode: &[u8], text: &mut [u8]) -> SourceWritten
     ensures { λ r. ⌜ (sourceNumbered r ≡ countOf (sourceWritten (now (bytecode .entry)) (length (now (text .entry))))) × (now (text .exit) ≡ textLeft (sourceWritten (now (bytecode .entry)) (length (now (text .entry)))) (now (text .entry))) ⌝ }
 {

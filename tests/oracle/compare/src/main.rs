@@ -58,6 +58,8 @@ struct Run {
     cases: usize,
     differences: usize,
     counts: Vec<Count>,
+    /// What was written of bytecodes when the drawing began.
+    listed: Sources,
 }
 
 /// The cases of one list or generator: how many, how many of them are accepted, and how many the whole list has.
@@ -144,6 +146,7 @@ impl Run {
 
     fn random(&mut self, most: usize, seed: u64) {
         let mut r = Random::new(seed);
+        self.listed = self.checker.sources;
         let large = self.begin("large sources", 0);
         let counts: Vec<usize> = GENERATORS.iter().map(|generator| self.begin(generator.name, 0)).collect();
         let by_share: Vec<usize> = GENERATORS.iter().enumerate().flat_map(|(n, generator)| vec![n; generator.share]).collect();
@@ -215,7 +218,7 @@ impl Run {
         let hexadecimal = accepted > 0 && bracketed > 0 && unreadable > 0 && large > 0;
         let Brackets { refusals, in_dst } = self.checker.brackets;
         let bracketed = [3, 5, 6, 8, 9, 10, 11, 25].iter().all(|number| refusals[*number] > 0) && in_dst > 0;
-        let written = self.checker.sources.complete();
+        let written = self.checker.sources.complete(&self.listed);
         counted == 0 || !respelt || !hexadecimal || !bracketed || !written || !self.checker.dry && !(called && metered)
     }
 }
@@ -226,7 +229,8 @@ fn main() {
     let seed = arguments.get(1).copied().unwrap_or(1);
     let set = |name: &str| std::env::var(name).is_ok_and(|value| value == "1");
     oracle::silence();
-    let mut run = Run { checker: Checker::new(set("DRY"), COUNTED_EVERY, NEAR_EVERY), trace: set("TRACE"), cases: 0, differences: 0, counts: vec![] };
+    let checker = Checker::new(set("DRY"), COUNTED_EVERY, NEAR_EVERY);
+    let mut run = Run { checker, trace: set("TRACE"), cases: 0, differences: 0, counts: vec![], listed: Sources::default() };
     run.named();
     if let Ok(path) = std::env::var("MANUAL") {
         run.manual(&path);

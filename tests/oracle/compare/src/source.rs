@@ -157,11 +157,13 @@ impl Sources {
         Ok(Due { text: Ok(text), words })
     }
 
-    /// Whether there was something of each sort: a row of each operation, and a 26 for each one whose row lacks a place.
-    pub fn complete(&self) -> bool {
+    /// Whether there was something of each sort: a row of each operation, and a 26 for each one whose row lacks a place. Of what is drawn often there must
+    /// be more than when the drawing began.
+    pub fn complete(&self, before: &Sources) -> bool {
         let lacking = |n: usize| ["op0", "op1", "dst"].iter().any(|name| !places(MNEMONICS[n]).contains(name));
-        let sorts = [self.written, self.of_sources, self.assembled, self.long, self.off_row, self.later, self.unopened];
-        sorts.iter().all(|count| *count > 0) && (0..27).all(|n| self.rows[n] > 0 && (self.causes[n] > 0) == lacking(n))
+        let often = |of: &Sources| [of.written, of.of_sources, of.assembled, of.off_row, of.later, of.unopened];
+        let drawn = often(self).iter().zip(often(before)).all(|(now, then)| *now > then);
+        drawn && self.long > 0 && (0..27).all(|n| self.rows[n] > 0 && (self.causes[n] > 0) == lacking(n))
     }
 }
 
