@@ -12,14 +12,15 @@ use Rattle.text.specs.Lines.{lines, ended}
 use Rattle.text.specs.Answer.{ok, refused, _>>_, refuseIf}
 use Rattle.text.specs.All.{All}
 use Rattle.text_write.specs.Digits.{digitsOf, digitCount}
-use Rattle.relocate.specs.Prophets.{withoutLastEmpty, labelsAfterHead, listedLabels}
 use Rattle.program.specs.Words.{programWords}
 use Rattle.program.specs.Groups.{grouped}
 use Rattle.program.specs.Bytecode.{linesOfGroups, joined, bytecodeOf, within, textLeft}
 use Rattle.encoder.specs.Assemble.{Room, Accepted, assembled}
+use Rattle.decoder.specs.Open.{opened}
 use Rattle.source.specs.SourceText.{spacedAll, sourceText, isOffRow, firstOffRow, sourceWritten}
 use Rattle.promises.specs.Starred.{plenty, printingSource}
-use Rattle.promises.specs.Promises.{source-left, source-refused, first-off-row, source-written, source-fits, source-assembles, no-row-reads-so, source-of-accepted, source-same-words}
+use Rattle.promises.specs.SourcePromise.{no-prophets}
+use Rattle.promises.specs.Promises.{source-left, source-refused, first-off-row, source-written, source-fits, source-assembles, source-words-fit, source-reads-again, no-row-reads-so, source-of-accepted, source-same-words}
 use Rattle.promises.specs.Applied.{printingProgram, printingAccepted, printing-accepted, printing-opens}
 use Rattle.promises.specs.AppliedBytecode.{strange, strangeRead, strange-opens}
 
@@ -77,10 +78,6 @@ printing-short = printing-answer 47
 printing-untouched : textLeft (sourceWritten printingBytecode 47) (replicate 47 7) ≡ replicate 47 7
 printing-untouched = source-left printingBytecode (replicate 47 7) .1 23 0 printing-short
 
-no-prophets : listedLabels [] ≡ ok []
-unfolding parts _>>_ refuseIf withoutLastEmpty labelsAfterHead listedLabels
-no-prophets = refl
-
 -- one entry and six words
 abbrev justEnough : Room
 justEnough = record { entries = 1; words = 6; hosts = 0 }
@@ -101,6 +98,16 @@ unfolding digitsOf digitCount joined spacedAll
 printing-same =
     source-same-words printingSource [] plenty printingAccepted printing-accepted (omega arith)
     [] no-prophets justEnough (omega arith) (omega arith)
+
+-- these six words are no more than the six lines of the bytecode,
+printing-words-fit : length (printingAccepted .words) ≤ 6
+unfolding parts lines ended digitsOf digitCount programWords grouped linesOfGroups joined
+printing-words-fit = source-words-fit printingBytecode printingProgram printing-opens
+
+-- and their bytecode opens to the program again
+printing-again : opened (bytecodeOf (printingAgain .words)) ≡ ok printingProgram
+unfolding programWords
+printing-again = source-reads-again printingBytecode printingProgram printing-opens 48 printingText (printing-written 48 (omega arith)) (omega arith)
 
 -- ---- a ret with r1 in dst
 

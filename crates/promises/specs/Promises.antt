@@ -50,13 +50,14 @@ use Rattle.decoder.proofs.OpenedLaws.{opened-run as run-opened, opened-form as 
 use Rattle.source.specs.SourceText.{sourceText, isOffRow, firstOffRow, sourceWritten}
 use Rattle.source_laws.proofs.OffRowLaws.{first-off-row as first-off, none-off-row as none-off, source-refused as refused-off, source-written as written-on-rows, no-row-reads-so as on-rows}
 use Rattle.source_laws.proofs.LengthLaws.{source-within, source-most}
+use Rattle.source_laws.proofs.AgainLaws.{words-by-lines}
 use Rattle.promises.specs.Terms.{SameProgram, operandAt, contentAt, Stands, IsPosition, IsPositionBefore, HoldsPosition, IsKept, rowsByLines}
 use Rattle.promises.specs.TieLaws.{left-front, bytecode-fits, nth-answer, lines-read}
 use Rattle.promises.specs.SameLaws.{words-same, bytecode-same, program-alone}
 use Rattle.promises.specs.AcceptedLaws.{accepted-words, accepted-readable, accepted-short, accepted-form}
 use Rattle.promises.specs.NamePromise.{rows-there, stands, lengths-one, address-words, names-counted, entries-left, column-left, table-positions}
 use Rattle.promises.specs.RoomLaws.{room-built, counted-words, refused-so, room-enough, room-late}
-use Rattle.promises.specs.SourcePromise.{left-written, left-refused, written-assembles, accepted-written, written-same}
+use Rattle.promises.specs.SourcePromise.{left-written, left-refused, written-assembles, written-again, accepted-written, written-same}
 
 -- What a caller holds after an accepted call.
 module _ (s prophets : List ℕ) (room : Room) (a : Accepted) (h : assembled s prophets room ≡ ok a) where
@@ -308,6 +309,20 @@ module _ (text : List ℕ) (is : List BinaryInstruction) (h : opened text ≡ ok
       → (room : Room) → 1 ≤ room .entries → length (programWords (map asCanonical is)) ≤ room .words → assembled t prophets room
       ≡ ok (record { labels = 1; program = map asCanonical is; words = programWords (map asCanonical is); hosts = [] })
   source-assembles = written-assembles text is h
+
+  -- The words that it asks room for are at most as many as the lines of the bytecode.
+  -- Of encoder_assemble::assemble_parts, encoder_entries::assemble, ola_assemble_parts and ola_assemble, given what was written.
+  -- A caller knows before the call how many words to lend: one for each line is enough.
+  pub source-words-fit : length (programWords (map asCanonical is)) ≤ length (lines text)
+  source-words-fit = words-by-lines text is h
+
+  -- The bytecode of these words, where what was written has at most 65,536 bytes, opens to the same instructions that were read, mov's psp again as psp.
+  -- Of the same functions, and the text that program_bytecode::write_bytecode and ola_write_bytecode leave, given their words; then of
+  -- decoder_open::open_text, decoder_bytecode::open and ola_open, given that text.
+  -- Who opens what was built of the source reads, one by one, what was read from the bytecode that it was written of.
+  pub source-reads-again : (space : ℕ) (t : List ℕ) → sourceWritten text space ≡ ok t → length t ≤ 65536
+      → opened (bytecodeOf (programWords (map asCanonical is))) ≡ ok is
+  source-reads-again = written-again text is h
 
 -- The source of one accepted source's bytecode.
 module _ (s prophets : List ℕ) (room : Room) (a : Accepted) (h : assembled s prophets room ≡ ok a) where

@@ -1,15 +1,17 @@
 -- The source of a bytecode: it assembles back to the program read from it, that of an accepted source to its words, and what a caller holds of it.
 use Prim.Native.Nat.{ℕ, _≤_}
-use mathlib.Core.Path.{_≡_, sym, ap, subst, _∙_}
+use mathlib.Core.Path.{_≡_, refl, sym, ap, subst, _∙_}
 use mathlib.Core.List.{List, [], map}
 use mathlib.Core.Bool.{false}
 use mathlib.Core.Option.{none}
+use native.Mathlib.Omega.{arith}
 use lib.ListN.{length, take, drop}
 use lib.Seq.{drop-append-seam}
-use Rattle.text.specs.Answer.{ok, refused, onOk}
+use Rattle.text.specs.Scan.{parts}
+use Rattle.text.specs.Answer.{ok, refused, _>>_, refuseIf, onOk}
 use Rattle.text.specs.All.{All, none-left, one-more}
 use Rattle.text.proofs.AnswerLaws.{ok-same}
-use Rattle.relocate.specs.Prophets.{listedLabels}
+use Rattle.relocate.specs.Prophets.{withoutLastEmpty, labelsAfterHead, listedLabels}
 use Rattle.program.specs.Words.{programWords}
 use Rattle.program.specs.Bytecode.{bytecodeOf, within, textLeft}
 use Rattle.program.specs.declared.BinaryInstruction.{BinaryInstruction}
@@ -17,15 +19,17 @@ use Rattle.program.specs.CanonicalForm.{CanonicalForm, InOrder}
 use Rattle.encoder.specs.Assemble.{Room, Accepted, assembled}
 use Rattle.decoder.specs.AsRead.{asRead, asCanonical}
 use Rattle.decoder.specs.Open.{opened}
+use Rattle.decoder.proofs.BytecodeLaws.{opens}
 use Rattle.decoder.proofs.OpenedLaws.{opened-form}
 use Rattle.source.specs.SourceText.{sourceText, isOffRow, firstOffRow, sourceWritten}
 use Rattle.source_laws.proofs.ReadsAs.{ReadsAs}
 use Rattle.source_laws.proofs.RowLaws.{reads-as}
 use Rattle.source_laws.proofs.AssembledLaws.{source-text-assembles}
+use Rattle.source_laws.proofs.AgainLaws.{read-again}
 use Rattle.source_laws.proofs.CanonicalLaws.{text-as-canonical, all-order-as-canonical, all-on-as-canonical, text-as-read, all-on-as-read}
 use Rattle.source_laws.proofs.OffRowLaws.{none-off-row, on-rows-written, written-source, no-row-reads-so}
 use Rattle.promises.specs.TieLaws.{left-front}
-use Rattle.promises.specs.AcceptedLaws.{accepted-form, accepted-order, accepted-words}
+use Rattle.promises.specs.AcceptedLaws.{accepted-form, accepted-order, accepted-words, accepted-readable, accepted-short}
 
 -- rows of instructions of canonical form, with numbers below p and nothing off their rows, read back
 all-reads-as : (is : List BinaryInstruction) → All CanonicalForm is → All InOrder is → All (λ i. isOffRow i ≡ false) is → All ReadsAs is
@@ -59,6 +63,21 @@ written-assembles text is h space t e short prophets listed room entries words =
     let z : t ≡ sourceText (map asCanonical is) = w .3 ∙ ap (λ (js : List BinaryInstruction). sourceText js) same ∙ sym (text-as-canonical is) in
     ap (λ (x : List ℕ). assembled x prophets room) z
     ∙ source-text-assembles (map asCanonical is) rows (subst (λ (x : List ℕ). length x ≤ 65536) z short) prophets listed room entries words
+
+-- an empty list names no prophet
+pub no-prophets : listedLabels [] ≡ ok []
+unfolding parts _>>_ refuseIf withoutLastEmpty labelsAfterHead listedLabels
+no-prophets = refl
+
+-- and the bytecode of what was assembled opens to the instructions that were read
+pub written-again : (text : List ℕ) (is : List BinaryInstruction) → opened text ≡ ok is → (space : ℕ) (t : List ℕ) → sourceWritten text space ≡ ok t
+    → length t ≤ 65536 → opened (bytecodeOf (programWords (map asCanonical is))) ≡ ok is
+written-again text is h space t e short =
+    let ws : List ℕ = programWords (map asCanonical is) in
+    let room : Room = record { entries = 1; words = length ws; hosts = 0 } in
+    let a : Accepted = record { labels = 1; program = map asCanonical is; words = ws; hosts = [] } in
+    let k : assembled t [] room ≡ ok a = written-assembles text is h space t e short [] no-prophets room (omega arith) (omega arith) in
+    opens (map asCanonical is) (accepted-readable t [] room a k) (accepted-short t [] room a k) ∙ ap ok (read-again text is h)
 
 module _ (s prophets : List ℕ) (room : Room) (a : Accepted) (h : assembled s prophets room ≡ ok a) where
   -- only 23 can come where the bytecode is an accepted source's, and what is written is the text of its program

@@ -93,7 +93,8 @@ module _ (cost : BinaryInstruction → ℕ) (u : List ℕ → ℕ) where
         let d = decoded-most (suc k) gs (b .0) (b .1) in
         subst (λ (is : List BinaryInstruction). total (map cost is) ≤ total (map (weighed u) (g ∷ gs))) (ok-same (b .2)) (omega arith)
 
-    opened-most : (text : List ℕ) (is : List BinaryInstruction) → opened text ≡ ok is
+    -- a text that opens has at most 524,288 bytes, and its instructions cost at most what its lines count
+    pub opened-most : (text : List ℕ) (is : List BinaryInstruction) → opened text ≡ ok is
         → (length text ≤ maxBytecodeBytes) × (total (map cost is) ≤ total (map u (lines text)))
     unfolding opened
     opened-most text is e =

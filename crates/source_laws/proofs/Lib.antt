@@ -5,5 +5,6 @@ pub mod RowLaws
 pub mod AssembledLaws
 pub mod RowLengths
 pub mod LengthLaws
+pub mod AgainLaws
 pub mod CanonicalLaws
 pub mod OffRowLaws
