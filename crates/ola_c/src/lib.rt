@@ -55,7 +55,7 @@ pub extern "C" fn ola_room_of(source: &[u8]) -> OlaRoom
 // Assembles a source with a prophet list over parallel arrays.
 // Promises: counts-answered, words-left, columns-left, same-words, same-bytecode, one-program, words-ahead, accepted-has-rows, lengths-are-one,
 // addresses-are-positions, instructions-stand, names-are-word-counts, table-is-positions, later-kept, kept-counted, rows-by-lines, same-lines, room-is-built,
-// room-refused, room-suffices, room-never-short, source-assembles, source-reads-again, no-row-reads-so, source-same-words.
+// room-refused, room-suffices, room-never-short, source-assembles, source-words-fit, source-reads-again, no-row-reads-so, source-same-words.
 #[no_mangle]
 pub extern "C" fn ola_assemble_parts(
     source: &[u8],
@@ -94,7 +94,7 @@ pub extern "C" fn ola_assemble_parts(
 // Assembles a source with a prophet list over a table of entries.
 // Promises: counts-answered, words-left, table-left, same-words, same-bytecode, one-program, words-ahead, accepted-has-rows, lengths-are-one,
 // addresses-are-positions, instructions-stand, names-are-word-counts, table-is-positions, later-kept, kept-counted, rows-by-lines, same-lines, room-is-built,
-// room-refused, room-suffices, room-never-short, source-assembles, source-reads-again, no-row-reads-so, source-same-words.
+// room-refused, room-suffices, room-never-short, source-assembles, source-words-fit, source-reads-again, no-row-reads-so, source-same-words.
 #[no_mangle]
 pub extern "C" fn ola_assemble(
     source: &[u8],
@@ -164,7 +164,7 @@ pub extern "C" fn ola_label_name(source: &[u8], entry: LabelEntry) -> OlaName
 }
 
 // Writes the bytecode text of words.
-// Promises: bytecode-left, same-bytecode.
+// Promises: bytecode-left, same-bytecode, source-reads-again.
 #[no_mangle]
 pub extern "C" fn ola_write_bytecode(words: &[u64], text: &mut [u8]) -> OlaWritten
     ensures { λ r. ⌜ r ≡ writtenOf (countOf (bytecodeWritten (now (words .entry)) (length (now (text .entry))))) ⌝ }
@@ -187,7 +187,7 @@ pub extern "C" fn ola_write_source(bytecode: &[u8], text: &mut [u8]) -> OlaWritt
 }
 
 // Whether a text opens as bytecode.
-// Promises: bytecode-opens, opened-run, opened-form.
+// Promises: bytecode-opens, opened-run, opened-form, source-reads-again.
 #[no_mangle]
 pub extern "C" fn ola_open(text: &[u8]) -> OlaOpened
     ensures { λ r. ⌜ r ≡ openedOf (acceptedOf (opened (now (text .entry)))) ⌝ }

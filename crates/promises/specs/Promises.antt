@@ -301,8 +301,8 @@ module _ (text : List ℕ) (is : List BinaryInstruction) (h : opened text ≡ ok
 
   -- What was written, if it has at most 65,536 bytes, assembles to the instructions that were read, with mov's psp taken as empty: to them and no others, in
   -- their order, with their words. Asked for are a list that names no prophet, one entry of the table and as many words as these.
-  -- Of source_write::write_source and ola_write_source, then of encoder_assemble::assemble_parts, encoder_entries::assemble, ola_assemble_parts and ola_assemble,
-  -- given what was written.
+  -- Of source_write::write_source and ola_write_source, then, given what was written, of encoder_assemble::assemble_parts, encoder_entries::assemble,
+  -- ola_assemble_parts and ola_assemble.
   -- A reviewer who holds nothing but a bytecode may read its source and build it, and has the program back. Its words need not be those of the bytecode:
   -- bits that no instruction is read from are gone.
   pub source-assembles : (space : ℕ) (t : List ℕ) → sourceWritten text space ≡ ok t → length t ≤ 65536 → (prophets : List ℕ) → listedLabels prophets ≡ ok []
@@ -311,7 +311,7 @@ module _ (text : List ℕ) (is : List BinaryInstruction) (h : opened text ≡ ok
   source-assembles = written-assembles text is h
 
   -- The words that it asks room for are at most as many as the lines of the bytecode.
-  -- Of encoder_assemble::assemble_parts, encoder_entries::assemble, ola_assemble_parts and ola_assemble, given what was written.
+  -- Of the same functions.
   -- A caller knows before the call how many words to lend: one for each line is enough.
   pub source-words-fit : length (programWords (map asCanonical is)) ≤ length (lines text)
   source-words-fit = words-by-lines text is h
