@@ -1,7 +1,7 @@
 /* The Ola assembler and bytecode reader for C and other languages: target/staticlib/libola_c.a, which `rt staticlib ola_c` writes.
  *
  * Every function but ola_version, ola_label_name and ola_meter_open answers a struct whose first field is a refusal (of ola_meter_build the first field of
- * its assembly): 0 means accepted, 1 to 25 are the refusals of the scope document and of the requests after it, 255, which is this interface's own, an
+ * its assembly): 0 means accepted, 1 to 26 are the refusals of the scope document and of the requests after it, 255, which is this interface's own, an
  * instruction whose numbers name none. On refusal every other field but the detail is 0 (a step's line stays where it was, and a meter is the one that was
  * given, not zero), and what was lent is as it was, but that refusals above 7 of assembling, on a meter too, leave the label table filled.
  *
@@ -32,7 +32,7 @@ extern "C" {
 
 /* The version of this header, and that of the library. A caller compares the two before any other call: structs come back by value, so a header of another
    version over the library could corrupt the caller's stack. It is raised whenever a function is added, or a struct, a signature or an answer changes. */
-#define OLA_VERSION 6
+#define OLA_VERSION 7
 uint64_t ola_version(void);
 
 /* The stack of ola_assemble, which has a label table of its own there; of ola_assemble_parts and ola_meter_build, which chain the table's names there, to
@@ -123,6 +123,11 @@ ola_step ola_next(const uint8_t *text, size_t text_len, size_t line);
 
 /* The same from the byte at an offset on, and the offset after it. A run from offset 0 gives the same instructions and reads the text once. */
 ola_step ola_next_at(const uint8_t *text, size_t text_len, size_t offset);
+
+/* Writes a source of a bytecode's instructions: `main:` and a row for each, without a final line feed. 5 + 21 bytes of text for each line of the bytecode
+   are enough, 2,970,976 for any. Refusals 14 to 19, 26 and 23, asked in this order. Where the source has at most 65,536 bytes, assembling it without
+   prophets, in one table entry and a word for each line of the bytecode, is accepted, and its words read as the same instructions. */
+ola_written ola_write_source(const uint8_t *bytecode, size_t bytecode_len, uint8_t *text, size_t text_len);
 
 /* The words of one instruction. Refusals 255, 21 and 22. */
 ola_encoding ola_encode(ola_instruction instruction);

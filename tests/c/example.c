@@ -866,6 +866,151 @@ static void listing(void)
     lists("listing_row: 255 for operation 27", instruction(27, NONE, NONE, NONE), 64, 255, "");
 }
 
+/* ---- document 02, Point 7 */
+
+/* The source of a bytecode, or its refusal, in a text of so many bytes; what is not written is untouched. */
+static int sourced(const char *bytecode, size_t room, uint64_t refusal, uint64_t detail, const char *source)
+{
+    static uint8_t text[256];
+    size_t n = strlen(source);
+    memset(text, MARK, sizeof text);
+    ola_written w = ola_write_source(bytes(bytecode), strlen(bytecode), text, room);
+    return w.refusal == refusal && w.detail == detail && w.written == n && memcmp(text, source, n) == 0 && untouched(text + n, sizeof text - n);
+}
+
+/* Two bytecodes read as the same instructions. */
+static int read_alike(const uint8_t *a, size_t a_len, const uint8_t *b, size_t b_len)
+{
+    ola_step s = { .refusal = 0, .line = 0 }, t = s;
+    while (s.refusal == 0) {
+        s = ola_next_at(a, a_len, s.line);
+        t = ola_next_at(b, b_len, t.line);
+        if (s.refusal != t.refusal || !same_instruction(s.instruction, t.instruction))
+            return 0;
+    }
+    return s.refusal == 20;
+}
+
+/* A bytecode's source, written by hand: with room to spare, with just enough, and with a byte less and none at all, which is 23. Assembling it, in one entry
+   and just so many words, gives these words, and they read as the bytecode does. */
+static void gives(const char *what, const char *bytecode, const char *source, const uint64_t *emitted, size_t count)
+{
+    static uint8_t text[160];
+    const ola_label main_row = { .kind = 0, .mapped = count > 0, .start = 0, .length = 4, .address = 0 };
+    size_t n = strlen(source);
+    int right = sourced(bytecode, n + 20, 0, 0, source) && sourced(bytecode, n, 0, 0, source) && sourced(bytecode, n - 1, 23, 0, "")
+                && sourced(bytecode, 0, 23, 0, "");
+    clear();
+    right = right && assembly_is(parts(source, n, "", 1, count, 0), 0, 0, 1, count, 0, 0) && same_entry(entry_at(0), main_row)
+            && memcmp(words, emitted, count * sizeof emitted[0]) == 0 && untouched(words + count, sizeof words - count * sizeof words[0]);
+    ola_written w = ola_write_bytecode(emitted, count, text, sizeof text);
+    say(what, right && w.refusal == 0 && read_alike(bytes(bytecode), strlen(bytecode), text, w.written));
+}
+
+/* A bytecode of which no source is written, whatever the room: every byte is untouched. */
+static void gives_none(const char *what, const char *bytecode, uint64_t refusal, uint64_t detail)
+{
+    say(what, sourced(bytecode, 256, refusal, detail, "") && sourced(bytecode, 5, refusal, detail, "") && sourced(bytecode, 0, refusal, detail, ""));
+}
+
+static void source_from_bytecode(void)
+{
+    static const struct { const char *what, *bytecode, *source; size_t count; uint64_t words[6]; } texts[] = {
+        { "write_source: of the empty text, main: alone", "", "main:", 0, { 0 } },
+        { "write_source: of a last first word, which is dropped, main: alone", "0x4000000001000000", "main:", 0, { 0 } },
+        { "write_source: the same behind a row", "800000\n0x4000000001000000", "main:\nret", 1, { UINT64_C(0x800000) } },
+        { "write_source: psp for both places of mov", "0x0000000008000000", "main:\nmov psp psp", 1, { UINT64_C(0x0000000008000000) } },
+        { "write_source: psp for three empty places", "0x0000000080000000", "main:\nadd psp psp psp", 1, { UINT64_C(0x0000000080000000) } },
+        { "write_source: -1 in decimal", "0x4000000004000000\n-1", "main:\njmp 18446744069414584320", 2,
+          { UINT64_C(0x4000000004000000), UINT64_C(0xffffffff00000000) } },
+        { "write_source: a hexadecimal line in decimal", "0x4000000004000000\n0xff", "main:\njmp 255", 2, { UINT64_C(0x4000000004000000), 255 } },
+        { "write_source: [r2,0], not [r2]", "0x4040000200400000\n0x0", "main:\nmload r1 [r2,0]", 2, { UINT64_C(0x4040000200400000), 0 } },
+        { "write_source: [r2,r3,1], not [r2,r3]", "0x0040200200400000\n1", "main:\nmload r1 [r2,r3,1]", 2, { UINT64_C(0x0040200200400000), 1 } },
+        { "write_source: a number beside a register of op1: the program comes back, not the words", "0x4040200200400000\n7", "main:\nmload r1 [r2,7]", 2,
+          { UINT64_C(0x4040000200400000), 7 } },
+        { "write_source: likewise of unused bits, a lower operation bit and a higher register", "0x8000180010008001", "main:\nassert r1", 1, { UINT64_C(0x0000080010000000) } },
+        { "write_source: mstore has its memory operand first", "0x4040000200200000\n5", "main:\nmstore [r2,5] r1", 2, { UINT64_C(0x4040000200200000), 5 } },
+        { "write_source: three places, two, one and none", "0x0040200280000000\n0x0000100208000000\n0x0020100002000000\n0x0000080004000000\n100000",
+          "main:\nadd r1 r2 r3\nmov r1 r2\ncjmp r1 r2\njmp r1\nend", 5,
+          { UINT64_C(0x0040200280000000), UINT64_C(0x0000100208000000), UINT64_C(0x0020100002000000), UINT64_C(0x0000080004000000), UINT64_C(0x100000) } },
+        { "write_source: a long mnemonic and the greatest number", "0x6000020000001000\n18446744069414584320",
+          "main:\nposeidon r9 r9 18446744069414584320", 2, { UINT64_C(0x6000020000001000), UINT64_C(0xffffffff00000000) } },
+        { "write_source: lines as they are read", "0x0x800000\r\n+100000\n", "main:\nret\nend", 2, { UINT64_C(0x800000), UINT64_C(0x100000) } },
+        { "write_source: the printing source's bytecode", BYTECODE, "main:\nmov r1 18446744069414584320\ncall 5\nend\nret", 6,
+          { UINT64_C(0x4000000208000000), UINT64_C(0xffffffff00000000), UINT64_C(0x4000000001000000), 5, UINT64_C(0x100000), UINT64_C(0x800000) } },
+    };
+    for (size_t i = 0; i < sizeof texts / sizeof texts[0]; i++)
+        gives(texts[i].what, texts[i].bytecode, texts[i].source, texts[i].words, texts[i].count);
+
+    gives_none("write_source: 26 for ret with dst, with no room too", "0x0000000600800000", 26, 0);
+    gives_none("write_source: 26 for ret with a number", "0x4000000000800000\n5", 26, 0);
+    gives_none("write_source: 26 for ret with a register in op1", "0x0000080000800000", 26, 0);
+    gives_none("write_source: 26 for end with op0", "0x0020000000100000", 26, 0);
+    gives_none("write_source: 26 for mov with op0", "0x0010000008000000", 26, 0);
+    gives_none("write_source: 26 for jmp with dst", "0x4000000204000000\n1", 26, 0);
+    gives_none("write_source: 26 for jmp with op0", "0x4020000004000000\n1", 26, 0);
+    gives_none("write_source: 26 for cjmp with dst", "0x0020100202000000", 26, 0);
+    gives_none("write_source: 26 with the instruction's index", "800000\n0x0000000600800000", 26, 1);
+    gives_none("write_source: 26 with the index of the first, by instructions, not by lines", "0x4000000004000000\n1\n0x0000000600800000\n0x0000000600800000",
+               26, 1);
+    gives_none("write_source: 15 behind an instruction off its row", "0x4000000204000000\n1\nzz", 15, 2);
+    gives_none("write_source: 16 behind one", "0x0000000600800000\n0x0", 16, 1);
+    gives_none("write_source: 17", "0x0000000080400000\n0x5", 17, 0);
+    gives_none("write_source: 18 behind one", "0x0000000600800000\n0x4000000001000000\nff", 18, 1);
+    gives_none("write_source: 19", "0x4040000000400000\n0x0", 19, 0);
+    static uint8_t long_text[524289], text[256];
+    memset(long_text, '0', sizeof long_text);
+    memset(text, MARK, sizeof text);
+    ola_written w = ola_write_source(long_text, sizeof long_text, text, sizeof text);
+    say("write_source: 14 for 524,289 bytes", w.refusal == 14 && w.detail == 0 && w.written == 0 && untouched(text, sizeof text));
+}
+
+/* Lines `40`, parted by line feeds: sigcheck with two empty places each. */
+#define MOST_LINES 174763
+#define MOST_SOURCE 2970976
+
+static void longest_source(void)
+{
+    static uint8_t bytecode[3 * MOST_LINES], source[MOST_SOURCE + PAST];
+    static uint64_t many[3854];
+    static ola_label table[1];
+    for (size_t i = 0; i < MOST_LINES; i++)
+        memcpy(bytecode + 3 * i, "40\n", 3);
+
+    memset(source, MARK, sizeof source);
+    ola_written w = ola_write_source(bytecode, 524288, source, MOST_SOURCE - 1);
+    say("write_source: 23 for a byte less than 524,288 bytes of lines `40` take", w.refusal == 23 && w.detail == 0 && w.written == 0
+                                                                                  && untouched(source, sizeof source));
+    w = ola_write_source(bytecode, 524288, source, MOST_SOURCE);
+    int right = w.refusal == 0 && w.detail == 0 && w.written == MOST_SOURCE && memcmp(source, "main:", 5) == 0;
+    for (size_t i = 0; i < MOST_LINES; i++)
+        right = right && memcmp(source + 5 + 17 * i, "\nsigcheck psp psp", 17) == 0;
+    say("write_source: their 2,970,976 bytes, the most of any bytecode", right && untouched(source + MOST_SOURCE, PAST));
+
+    memset(source, MARK, sizeof source);
+    w = ola_write_source(bytecode, 3 * 3854 - 1, source, sizeof source);
+    say("write_source: 65,523 bytes of 3,854 lines", w.refusal == 0 && w.written == 65523 && untouched(source + 65523, sizeof source - 65523));
+    clear();
+    ola_assembly a = ola_assemble_parts(source, w.written, bytes(""), 0, kinds, 1, mapped, 1, starts, 1, lengths, 1, addresses, 1, many, 3854, hosts, 0);
+    right = assembly_is(a, 0, 0, 1, 3854, 0, 0);
+    for (size_t i = 0; i < 3854; i++)
+        right = right && many[i] == UINT64_C(0x40);
+    say("assemble_parts: their words", right);
+    memset(many, 0, sizeof many);
+    a = ola_assemble(source, w.written, bytes(""), 0, table, 1, many, 3854, hosts, 0);
+    right = assembly_is(a, 0, 0, 1, 3854, 0, 0);
+    for (size_t i = 0; i < 3854; i++)
+        right = right && many[i] == UINT64_C(0x40);
+    say("assemble: their words, and main in the table",
+        right && table[0].kind == 0 && table[0].mapped && table[0].start == 0 && table[0].length == 4 && table[0].address == 0);
+    w = ola_write_source(bytecode, 3 * 3855 - 1, source, sizeof source);
+    say("write_source: 65,540 bytes of 3,855 lines", w.refusal == 0 && w.written == 65540);
+    a = ola_assemble_parts(source, w.written, bytes(""), 0, kinds, 1, mapped, 1, starts, 1, lengths, 1, addresses, 1, many, 3854, hosts, 0);
+    say("assemble_parts: 1 for these", assembly_is(a, 1, 0, 0, 0, 0, 0));
+    a = ola_assemble(source, w.written, bytes(""), 0, table, 1, many, 3854, hosts, 0);
+    say("assemble: 1 for these", assembly_is(a, 1, 0, 0, 0, 0, 0));
+}
+
 /* ---- the longest source: main and as many rows `jmp 1` as 65,536 bytes hold */
 
 #define JUMPS 10921
@@ -934,6 +1079,8 @@ int main(void)
     reading();
     encoding();
     listing();
+    source_from_bytecode();
+    longest_source();
     longest();
     printf("%d differences\n", faults);
     return faults == 0 ? 0 : 1;

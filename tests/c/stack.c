@@ -115,6 +115,15 @@ static void next_at(void)
         step = ola_next_at(shared->text, shared->text_length, step.line);
 }
 
+/* The bytecode's source; then a text that is too short for it, and an instruction off its row. */
+static void write_source(void)
+{
+    static const uint8_t off_row[] = "0x0000000600800000";
+    ola_write_source(shared->text, shared->text_length, text, TEXT);
+    ola_write_source(shared->text, shared->text_length, text, 1000);
+    ola_write_source(off_row, sizeof off_row - 1, text, TEXT);
+}
+
 static ola_place place(uint8_t content)
 {
     ola_place p = { .content = content, .reg = content == 5 ? 1 : 9, .number = GREATEST };
@@ -165,6 +174,7 @@ static const struct { const char *name; void (*calls)(void); size_t figure; } FU
     { "ola_open", open_text, OLA_STACK_OTHER },
     { "ola_next", next, OLA_STACK_OTHER },
     { "ola_next_at", next_at, OLA_STACK_OTHER },
+    { "ola_write_source", write_source, OLA_STACK_OTHER },
     { "ola_encode", encode, OLA_STACK_OTHER },
     { "ola_listing_row", listing_row, OLA_STACK_OTHER },
 };

@@ -1,7 +1,7 @@
 /* Answers calls of include/ola.h that tests/manual/check asks for, one a line on standard input, in words and numbers on standard output. Texts are
    hexadecimal, `-` where empty. Every lent buffer is filled with a mark first and has entries past its end; a line `fault` says what was touched that
-   should not be, where the two forms of assembling, the room told and the build, a build on a meter and one without, or the two ways of reading on, do not
-   agree, and where an address in an accepted source's table is no first word's position. */
+   should not be, where the two forms of assembling, the room told and the build, a build on a meter and one without, the two ways of reading on, or a
+   bytecode and the source written of it, do not agree, and where an address in an accepted source's table is no first word's position. */
 #include <inttypes.h>
 #include <stdio.h>
 #include <stdlib.h>
@@ -348,6 +348,81 @@ static void run(const uint8_t *bytes, size_t length)
     }
 }
 
+/* The words of a source that has one label, assembled without prophets in one entry and so many words; none where that is refused or answers otherwise. */
+static uint64_t *words_of(const uint8_t *source, size_t length, size_t room, uint64_t *count)
+{
+    ola_label entry = {0};
+    uint64_t host, *words = lent(room, sizeof *words);
+    ola_assembly a = ola_assemble(source, length, source, 0, &entry, 1, words, room, &host, 0);
+    *count = a.words;
+    if (!a.refusal && a.labels == 1 && a.words <= room && entry.kind == 0 && entry.start == 0 && entry.length == 4)
+        return words;
+    free(words);
+    return NULL;
+}
+
+/* Whether the first reads as the second does. */
+static int read_alike(const uint8_t *one, size_t one_length, const uint8_t *other, size_t other_length)
+{
+    size_t at_one = 0, at_other = 0;
+    for (;;) {
+        ola_step s = ola_next_at(one, one_length, at_one), t = ola_next_at(other, other_length, at_other);
+        if (!same_step(s, t))
+            return 0;
+        if (s.refusal)
+            return 1;
+        at_one = s.line;
+        at_other = t.line;
+    }
+}
+
+/* The source of a bytecode, beside its text: opening refuses as writing does; so many bytes are just enough and one less is 23; it has as many rows as the
+   bytecode has instructions; and assembling it, in one entry and a word for each line, gives words that read as the bytecode. */
+static void beside_source(const uint8_t *bytes, size_t length)
+{
+    ola_opened o = ola_open(bytes, length);
+    size_t lines = 1, rows = 0, instructions = 0;
+    for (size_t i = 0; i < length; i++)
+        lines += bytes[i] == '\n';
+    size_t room = 5 + 21 * lines;
+    uint8_t *source = lent(room, 1);
+    ola_written w = ola_write_source(bytes, length, source, room);
+    untouched("the text", source, w.written, room, 1);
+    if (!o.refusal)
+        for (ola_step s = ola_next_at(bytes, length, 0); !s.refusal; s = ola_next_at(bytes, length, s.line))
+            instructions += 1;
+    if (o.refusal ? w.refusal != o.refusal || w.detail != o.detail : w.refusal != 0 && (w.refusal != 26 || w.detail >= instructions))
+        printf("fault ola_write_source refuses with %" PRIu64 ", ola_open with %" PRIu64 "\n", w.refusal, o.refusal);
+    if (w.refusal) {
+        free(source);
+        return;
+    }
+    uint8_t *exact = lent(w.written, 1);
+    ola_written again = ola_write_source(bytes, length, exact, w.written - 1);
+    if (again.refusal != 23 || again.detail || again.written)
+        printf("fault with a byte less than the source has, it is not 23\n");
+    untouched("the text that is too short", exact, 0, w.written, 1);
+    again = ola_write_source(bytes, length, exact, w.written);
+    if (again.refusal || again.written != w.written || memcmp(exact, source, w.written))
+        printf("fault with just so many bytes as the source has, it is another\n");
+    untouched("what is past the text", exact, w.written, w.written, 1);
+    for (size_t i = 0; i < w.written; i++)
+        rows += source[i] == '\n';
+    if (rows != instructions)
+        printf("fault %zu rows for %zu instructions\n", rows, instructions);
+    if (w.written <= 65536) {
+        uint64_t count, *words = words_of(source, w.written, lines, &count);
+        uint8_t *text = lent(19 * lines, 1);
+        again = words ? ola_write_bytecode(words, count, text, 19 * lines) : again;
+        if (!words || again.refusal || !read_alike(text, again.written, bytes, length))
+            printf("fault assembling the source does not give the program back\n");
+        free(words);
+        free(text);
+    }
+    free(exact);
+    free(source);
+}
+
 static ola_place place(void)
 {
     ola_place p = {0};
@@ -417,6 +492,12 @@ static void answer(const char *what)
             printf("opened %" PRIu64 " %" PRIu64 "\n", o.refusal, o.detail);
             if (!o.refusal)
                 run(bytes, length);
+            beside_source(bytes, length);
+        } else if (!strcmp(what, "source")) {
+            size_t room = number();
+            uint8_t *buffer = lent(room, 1);
+            put_written("source", ola_write_source(bytes, length, buffer, room), buffer, room);
+            beside_source(bytes, length);
         } else if (!strcmp(what, "next")) {
             put_step(ola_next(bytes, length, number()));
         } else if (!strcmp(what, "next_at")) {

@@ -1,7 +1,7 @@
 //! Measures assembling and reading bytecode by the port and by the Rust with which this is built, in nanoseconds of processor time for a byte: each the
 //! median of several samples. The port: ola_assemble_parts, ola_assemble; ola_open and then ola_next_at to the end. The Rust: asm_relocate and
-//! encode_to_binary; decode_binary_program_to_instructions. And what the Rust has nothing for, beside ola_assemble_parts: the room of a source, ola_room_of,
-//! and a build on a meter, ola_meter_build.
+//! encode_to_binary; decode_binary_program_to_instructions. And what the Rust has nothing for: beside ola_assemble_parts the room of a source, ola_room_of,
+//! and a build on a meter, ola_meter_build; beside reading the source of a bytecode, ola_write_source.
 mod sources;
 
 use std::cell::{Cell, RefCell};
@@ -54,6 +54,13 @@ struct Room {
 struct Opened {
     refusal: u64,
     detail: u64,
+}
+
+#[repr(C)]
+struct Written {
+    refusal: u64,
+    detail: u64,
+    written: u64,
 }
 
 #[repr(C)]
@@ -146,6 +153,7 @@ mod sys {
         pub fn ola_room_of(source: *const u8, source_len: usize) -> Room;
         pub fn ola_open(text: *const u8, text_len: usize) -> Opened;
         pub fn ola_next_at(text: *const u8, text_len: usize, offset: usize) -> Step;
+        pub fn ola_write_source(bytecode: *const u8, bytecode_len: usize, text: *mut u8, text_len: usize) -> Written;
     }
 }
 
@@ -356,8 +364,20 @@ fn read(text: &[u8]) -> usize {
     }
 }
 
+/// `ola_write_source` into a text that is long enough for any bytecode.
+fn write_source(bytecode: &[u8]) -> Written {
+    thread_local!(static LENT: RefCell<Vec<u8>> = RefCell::new(vec![0; 2_970_976]));
+    LENT.with(|lent| {
+        let mut lent = lent.borrow_mut();
+        let answer = unsafe { sys::ola_write_source(bytecode.as_ptr(), bytecode.len(), lent.as_mut_ptr(), lent.len()) };
+        assert_eq!(answer.refusal, 0);
+        answer
+    })
+}
+
 /// What is measured, the source, its bytes, and nanoseconds a byte of the port and of the Rust (which gets the rows in decimal, and whose time is divided by
-/// the same bytes); of a room and of a build on a meter, of `ola_room_of` or `ola_meter_build` and of `ola_assemble_parts`.
+/// the same bytes); of a room and of a build on a meter, of `ola_room_of` or `ola_meter_build` and of `ola_assemble_parts`; of the source of a bytecode, of
+/// `ola_write_source` and of reading.
 fn print(what: &str, name: &str, bytes: usize, port: f64, beside: f64) {
     println!("{what}\t{name}\t{bytes}\t{:.4}\t{:.4}", port / bytes as f64, beside / bytes as f64);
 }
@@ -390,5 +410,10 @@ fn main() {
         let bytes = source.as_bytes();
         let found = close_medians([&|| drop(black_box(metered(black_box(bytes)))), &|| drop(black_box(parts(black_box(bytes))))]);
         print("metered", name, bytes.len(), found[0], found[1]);
+    }
+    for (name, text) in sources::read() {
+        let bytes = text.as_bytes();
+        let found = medians(&mut [sampler(|| bytes, write_source), sampler(|| bytes, read)]);
+        print("source", name, bytes.len(), found[0], found[1]);
     }
 }

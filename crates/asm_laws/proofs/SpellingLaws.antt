@@ -78,7 +78,8 @@ module _ (v : ℕ) (h : v < 2 ^ 64) where
   enough : v < 10 ^ digitCount 10 63 v
   enough = digitCount-enough 10 63 v (omega arith) (lt-trans h (lit< tt))
 
-  all-digits : all isDigit (decimalText v) ≡ true
+  -- it is digits
+  pub all-digits : all isDigit (decimalText v) ≡ true
   all-digits = decimal-digits (digitCount 10 63 v) v
 
   -- no sign and no `x` stands among them
@@ -94,7 +95,8 @@ module _ (v : ℕ) (h : v < 2 ^ 64) where
   unfolding isDigit
   no-x = nowhere-among isDigit (decimalText v) 1 120 all-digits refl refl
 
-  some-digit : isEmpty (decimalText v) ≡ false
+  -- at least one
+  pub some-digit : isEmpty (decimalText v) ≡ false
   some-digit = go (decimalText v) (let l = length-decimal v in let p = digitCount-positive 10 63 v in omega arith)
     where
       go : (l : List ℕ) → 1 ≤ length l → isEmpty l ≡ false
@@ -102,7 +104,7 @@ module _ (v : ℕ) (h : v < 2 ^ 64) where
       go (x ∷ l) k = refl
 
   -- it is n
-  written-number : isSourceNumber (decimalText v) ≡ true
+  pub written-number : isSourceNumber (decimalText v) ≡ true
   unfolding isSourceNumber
   written-number = rw (no-minus, no-plus, some-digit, all-digits)
 

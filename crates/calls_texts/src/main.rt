@@ -1,5 +1,5 @@
-// Bytecode written, opened and read back, its rows listed, and an instruction encoded, on the words that document 01 prints for its printing source.
-// The README shows these calls.
+// Bytecode written, opened and read back, its rows listed, source written from it, and an instruction encoded, on the words that document 01 prints for
+// its printing source. The README shows these calls.
 use decoder::Found;
 use decoder::Opening;
 use libc::STDOUT_FILENO;
@@ -8,6 +8,7 @@ use program::SecondWord;
 use program_bytecode::Written;
 use program_encode::Encoding;
 use program_listing::RowWritten;
+use source::SourceWritten;
 use vm_opcodes::OlaOpcode;
 use vm_operands::ImmediateValue;
 use vm_operands::OlaOperand;
@@ -60,7 +61,16 @@ fn show_writing(text: &mut [u8]) -> usize {
     }
 }
 
-// Opens a bytecode and reads it by lines, by offsets and by number.
+// Source from a bytecode.
+fn show_source(bytecode: &[u8]) {
+    let mut source = [0u8; 128];
+    match source_write::write_source(bytecode, &mut source) {
+        SourceWritten::Is(n) => print_text(&source, n),
+        SourceWritten::Refused(refusal) => {}
+    }
+}
+
+// Opens a bytecode, reads it by lines, by offsets and by number, and writes source from it.
 fn show_reading(text: &[u8]) {
     match decoder_open::open_text(text) {
         Opening::Accepted => {
@@ -82,6 +92,7 @@ fn show_reading(text: &[u8]) {
     io::write_all(STDOUT_FILENO, b" bytes read\n");
     print_found(decoder_runs::nth(text, 3));
     print_found(decoder_runs::nth(text, 4));
+    show_source(text);
 }
 
 // The same over the first n bytes of a text.

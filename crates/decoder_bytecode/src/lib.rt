@@ -23,7 +23,7 @@ pub struct Step<'a> {
 }
 
 // Whether a text opens as bytecode, 14 to 19, and the reader at its first line.
-// Promises: bytecode-opens, opened-run, opened-form.
+// Promises: bytecode-opens, opened-run, opened-form, source-reads-again.
 pub fn open<'a>(text: &'a [u8]) -> Opened<'a>
     ensures { λ r. ⌜ openForm r ≡ openOf (text .entry) ⌝ }
 {

@@ -86,7 +86,7 @@ fn open_all(text: &[u8]) -> Opening
 }
 
 // Whether a text opens as bytecode: 14, then 15 over the whole text, then 16 to 19 by instruction.
-// Promises: bytecode-opens, opened-run, opened-form.
+// Promises: bytecode-opens, opened-run, opened-form, source-reads-again.
 pub fn open_text(text: &[u8]) -> Opening
     ensures { λ r. ⌜ openNumbered r ≡ acceptedOf (opened (now (text .entry))) ⌝ }
 {

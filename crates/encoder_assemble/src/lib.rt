@@ -243,8 +243,8 @@ fn encode_table(
 
 // Assembles a source with a prophet list: the label table into the five slices, 7 where the shortest is too short, the words and the hosts.
 // Promises: counts-answered, words-left, columns-left, same-words, same-bytecode, one-program, words-ahead, accepted-has-rows, lengths-are-one,
-// addresses-are-positions, instructions-stand, names-are-word-counts, table-is-positions, later-kept, kept-counted, rows-by-lines, same-lines, room-is-built, room-refused, room-suffices,
-// room-never-short.
+// addresses-are-positions, instructions-stand, names-are-word-counts, table-is-positions, later-kept, kept-counted, rows-by-lines, same-lines, room-is-built,
+// room-refused, room-suffices, room-never-short, source-assembles, source-words-fit, source-reads-again, no-row-reads-so, source-same-words.
 pub fn assemble_parts(
     source: &[u8],
     prophets: &[u8],

@@ -8,8 +8,8 @@ ghost use Rattle.encoder.specs.Assemble.{numbered, assembled, assembledTotals, 
 
 // Assembles a source with a prophet list: the label table, the words and the hosts.
 // Promises: counts-answered, words-left, table-left, same-words, same-bytecode, one-program, words-ahead, accepted-has-rows, lengths-are-one,
-// addresses-are-positions, instructions-stand, names-are-word-counts, table-is-positions, later-kept, kept-counted, rows-by-lines, same-lines, room-is-built, room-refused, room-suffices,
-// room-never-short.
+// addresses-are-positions, instructions-stand, names-are-word-counts, table-is-positions, later-kept, kept-counted, rows-by-lines, same-lines, room-is-built,
+// room-refused, room-suffices, room-never-short, source-assembles, source-words-fit, source-reads-again, no-row-reads-so, source-same-words.
 pub fn assemble(
     source: &[u8],
     prophets: &[u8],

@@ -36,6 +36,10 @@ use Rattle.program_listing.specs.declared.RowWritten.the-variants.{Is as IsRow,
 use Rattle.program_encode.specs.Encoding.{encodingNumbered}
 use Rattle.program_encode.specs.declared.Encoding.{Encoding}
 use Rattle.program_encode.specs.declared.Encoding.the-variants.{Is as IsEncoded, Refused as NotEncoded}
+use Rattle.source.specs.SourceText.{sourceRefusalNumber, sourceRefusalDetail, sourceNumbered}
+use Rattle.source.specs.declared.SourceRefusal.{SourceRefusal}
+use Rattle.source.specs.declared.SourceWritten.{SourceWritten}
+use Rattle.source.specs.declared.SourceWritten.the-variants.{Is as IsSource, Refused as NoSource}
 use Rattle.ola_answers.specs.Answers.{assemblyOf, meteredOf, figuresOut, writtenOf, encodingOf, nameOf}
 use Rattle.ola_answers.specs.declared.OlaAssembly.{OlaAssembly}
 use Rattle.ola_answers.specs.declared.OlaMetered.{OlaMetered}
@@ -92,6 +96,18 @@ module _ (r : OlaWritten) where
   row-not a RowTextTooShort n e g w = rw (w, e, g)
 
 pub ruleset written-laws = (written-is, written-not, row-is, row-not, needs)
+
+-- ---- writing source
+
+module _ (a : SourceWritten) where
+  pub source-is : (r : OlaWritten) (n : ℕ) → a ≡ IsSource n → r ≡ writtenOf (ok n) → r ≡ writtenOf (sourceNumbered a)
+  source-is r n e w = rw (w, e)
+
+  pub source-not : (f : SourceRefusal) (n d : ℕ) → a ≡ NoSource f → n ≡ sourceRefusalNumber f → d ≡ sourceRefusalDetail f
+      → record { refusal = n; detail = d; written = 0 } ≡ writtenOf (sourceNumbered a)
+  source-not f n d e g h = rw (e, g, h)
+
+pub ruleset source-laws = (source-is, source-not, needs)
 
 -- ---- encoding
 

@@ -11,6 +11,8 @@ use program_bytecode::Written;
 use program_encode::Encoding;
 use program_listing::RowWritten;
 use relocate::RoomFound;
+use source::SourceRefusal;
+use source::SourceWritten;
 ghost use mathlib.Core.Path.{_≡_};
 ghost use Rattle.text.specs.Answer.{ok, refused};
 ghost use Rattle.asm.specs.Parts.{namePart};
@@ -20,6 +22,7 @@ ghost use Rattle.program.specs.Refusals.{rowNumber, encodeNumber, encodeDetail}
 ghost use Rattle.program_bytecode.specs.Written.{writtenNumbered};
 ghost use Rattle.program_encode.specs.Encoding.{encodingNumbered};
 ghost use Rattle.program_listing.specs.Row.{rowNumbered};
+ghost use Rattle.source.specs.SourceText.{sourceRefusalNumber, sourceRefusalDetail, sourceNumbered};
 ghost use Rattle.ola_answers.specs.Answers.{assemblyOf, meteredOf, figuresOut, writtenOf, encodingOf, nameOf};
 
 #[repr(C)]
@@ -183,6 +186,42 @@ pub fn row_out(answer: RowWritten) -> OlaWritten
     match answer {
         RowWritten::Is(n) => accepted_text(n),
         RowWritten::Refused(refusal) => refused_text(row_number(refusal)),
+    }
+}
+
+// The number of a refusal to write source.
+fn source_number(refusal: SourceRefusal) -> u64
+    ensures { λ r. ⌜ r ≡ sourceRefusalNumber refusal ⌝ }
+{
+    match refusal {
+        SourceRefusal::Open(inner) => ola_steps::open_number(inner),
+        SourceRefusal::OffRow(index) => 26,
+        SourceRefusal::TextTooShort => 23,
+    }
+}
+
+// And its detail.
+fn source_detail(refusal: SourceRefusal) -> u64
+    ensures { λ r. ⌜ r ≡ sourceRefusalDetail refusal ⌝ }
+{
+    match refusal {
+        SourceRefusal::Open(inner) => ola_steps::open_detail(inner),
+        SourceRefusal::OffRow(index) => index as u64,
+        SourceRefusal::TextTooShort => 0,
+    }
+}
+
+// What writing source answered.
+pub fn source_out(answer: SourceWritten) -> OlaWritten
+    ensures { λ r. ⌜ r ≡ writtenOf (sourceNumbered answer) ⌝ }
+{
+    match answer {
+        SourceWritten::Is(n) => accepted_text(n),
+        SourceWritten::Refused(refusal) => OlaWritten {
+            refusal: source_number(refusal),
+            detail: source_detail(refusal),
+            written: 0,
+        },
     }
 }
 

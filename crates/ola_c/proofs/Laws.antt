@@ -23,6 +23,8 @@ use Rattle.program_encode.specs.Encoding.{encodingNumbered}
 use Rattle.program_encode.specs.declared.Encoding.{Encoding}
 use Rattle.program_listing.specs.Row.{rowNumbered}
 use Rattle.program_listing.specs.declared.RowWritten.{RowWritten}
+use Rattle.source.specs.SourceText.{sourceNumbered}
+use Rattle.source.specs.declared.SourceWritten.{SourceWritten}
 use Rattle.decoder.specs.Steps.{openNumbered, foundNumbered, Stepped, SteppedAt, lineNumbered, stepNumbered}
 use Rattle.decoder.specs.declared.Opening.{Opening}
 use Rattle.decoder.specs.declared.LineStep.{LineStep}
@@ -56,6 +58,9 @@ room-answers a x r e g = g ∙ ap figuresOut e
 pub written-answers : (a : Written) (x : Answer ℕ) (r : OlaWritten) → writtenNumbered a ≡ x → r ≡ writtenOf (writtenNumbered a) → r ≡ writtenOf x
 written-answers a x r e g = g ∙ ap writtenOf e
 
+pub source-answers : (a : SourceWritten) (x : Answer ℕ) (r : OlaWritten) → sourceNumbered a ≡ x → r ≡ writtenOf (sourceNumbered a) → r ≡ writtenOf x
+source-answers a x r e g = g ∙ ap writtenOf e
+
 pub opened-answers : (a : Opening) (x : Answer (Unit {0})) (r : OlaOpened) → openNumbered a ≡ x → r ≡ openedOf (openNumbered a) → r ≡ openedOf x
 opened-answers a x r e g = g ∙ ap openedOf e
 
@@ -65,7 +70,7 @@ line-answers a x r e g = g ∙ ap lineStep e
 pub offset-answers : (a : StepAt) (x : SteppedAt) (r : OlaStep) → stepNumbered a ≡ x → r ≡ stepOf (foundNumbered (a .found)) (a .offset) → r ≡ offsetStep x
 offset-answers a x r e g = g ∙ ap offsetStep e
 
-pub ruleset answer-laws = (assembly-answers, metered-answers, room-answers, written-answers, opened-answers, line-answers, offset-answers, needs)
+pub ruleset answer-laws = (assembly-answers, metered-answers, room-answers, written-answers, source-answers, opened-answers, line-answers, offset-answers, needs)
 
 -- ---- an instruction given as numbers
 

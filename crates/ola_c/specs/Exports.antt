@@ -19,7 +19,7 @@ use Rattle.ola_steps.specs.declared.OlaStep.{OlaStep}
 
 -- the version of the interface, as docs/CHANGES.md tells it
 abbrev pub version : ℕ
-version = 6
+version = 7
 
 -- a call of next by its line
 abbrev pub lineStep : Stepped → OlaStep

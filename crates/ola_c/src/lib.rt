@@ -25,13 +25,14 @@ ghost use Rattle.meter.specs.Meter.{atStart, meterAfter};
 ghost use Rattle.meter_builds.specs.Lent.{lentIn, roomIn, lentLeft};
 ghost use Rattle.decoder.specs.Open.{opened};
 ghost use Rattle.decoder.specs.Steps.{acceptedOf, stepped, steppedAt};
+ghost use Rattle.source.specs.SourceText.{sourceWritten};
 ghost use Rattle.ola_places.specs.Places.{instructionIn};
 ghost use Rattle.ola_answers.specs.Answers.{assemblyOf, meteredOf, figuresOut, writtenOf, nameOf};
 ghost use Rattle.ola_steps.specs.Steps.{openedOf};
 ghost use Rattle.ola_c.specs.Exports.{version, lineStep, offsetStep, encodingNamed, listed, listedText};
 
 // The version of this interface: that of include/ola.h. It is raised whenever a function is added, or a struct, a signature or an answer changes.
-pub const OLA_VERSION: u64 = 6;
+pub const OLA_VERSION: u64 = 7;
 
 // The version of the library, which a caller compares with its header's.
 // Promises: none; its contract is its whole outcome.
@@ -54,7 +55,7 @@ pub extern "C" fn ola_room_of(source: &[u8]) -> OlaRoom
 // Assembles a source with a prophet list over parallel arrays.
 // Promises: counts-answered, words-left, columns-left, same-words, same-bytecode, one-program, words-ahead, accepted-has-rows, lengths-are-one,
 // addresses-are-positions, instructions-stand, names-are-word-counts, table-is-positions, later-kept, kept-counted, rows-by-lines, same-lines, room-is-built,
-// room-refused, room-suffices, room-never-short.
+// room-refused, room-suffices, room-never-short, source-assembles, source-words-fit, source-reads-again, no-row-reads-so, source-same-words.
 #[no_mangle]
 pub extern "C" fn ola_assemble_parts(
     source: &[u8],
@@ -93,7 +94,7 @@ pub extern "C" fn ola_assemble_parts(
 // Assembles a source with a prophet list over a table of entries.
 // Promises: counts-answered, words-left, table-left, same-words, same-bytecode, one-program, words-ahead, accepted-has-rows, lengths-are-one,
 // addresses-are-positions, instructions-stand, names-are-word-counts, table-is-positions, later-kept, kept-counted, rows-by-lines, same-lines, room-is-built,
-// room-refused, room-suffices, room-never-short.
+// room-refused, room-suffices, room-never-short, source-assembles, source-words-fit, source-reads-again, no-row-reads-so, source-same-words.
 #[no_mangle]
 pub extern "C" fn ola_assemble(
     source: &[u8],
@@ -163,7 +164,7 @@ pub extern "C" fn ola_label_name(source: &[u8], entry: LabelEntry) -> OlaName
 }
 
 // Writes the bytecode text of words.
-// Promises: bytecode-left, same-bytecode.
+// Promises: bytecode-left, same-bytecode, source-reads-again.
 #[no_mangle]
 pub extern "C" fn ola_write_bytecode(words: &[u64], text: &mut [u8]) -> OlaWritten
     ensures { λ r. ⌜ r ≡ writtenOf (countOf (bytecodeWritten (now (words .entry)) (length (now (text .entry))))) ⌝ }
@@ -173,8 +174,20 @@ pub extern "C" fn ola_write_bytecode(words: &[u64], text: &mut [u8]) -> OlaWritt
     ola_answers::written_out(answer)
 }
 
+// Writes a source of a bytecode's instructions.
+// Promises: source-left, source-refused, first-off-row, source-written, source-fits, source-assembles, source-words-fit, source-reads-again,
+// source-of-accepted.
+#[no_mangle]
+pub extern "C" fn ola_write_source(bytecode: &[u8], text: &mut [u8]) -> OlaWritten
+    ensures { λ r. ⌜ r ≡ writtenOf (countOf (sourceWritten (now (bytecode .entry)) (length (now (text .entry))))) ⌝ }
+    ensures { λ _. ⌜ now (text .exit) ≡ textLeft (sourceWritten (now (bytecode .entry)) (length (now (text .entry)))) (now (text .entry)) ⌝ }
+{
+    let answer = source_write::write_source(bytecode, text);
+    ola_answers::source_out(answer)
+}
+
 // Whether a text opens as bytecode.
-// Promises: bytecode-opens, opened-run, opened-form.
+// Promises: bytecode-opens, opened-run, opened-form, source-reads-again.
 #[no_mangle]
 pub extern "C" fn ola_open(text: &[u8]) -> OlaOpened
     ensures { λ r. ⌜ r ≡ openedOf (acceptedOf (opened (now (text .entry)))) ⌝ }

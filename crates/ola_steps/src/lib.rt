@@ -27,7 +27,7 @@ pub struct OlaStep {
 }
 
 // The number of a refusal from 14 to 19.
-fn open_number(refusal: OpenRefusal) -> u64
+pub fn open_number(refusal: OpenRefusal) -> u64
     ensures { λ r. ⌜ r ≡ openNumber refusal ⌝ }
 {
     match refusal {
@@ -41,7 +41,7 @@ fn open_number(refusal: OpenRefusal) -> u64
 }
 
 // And its detail.
-fn open_detail(refusal: OpenRefusal) -> u64
+pub fn open_detail(refusal: OpenRefusal) -> u64
     ensures { λ r. ⌜ r ≡ openDetail refusal ⌝ }
 {
     match refusal {

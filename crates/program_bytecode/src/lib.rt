@@ -138,7 +138,7 @@ fn write_words(words: &[u64], text: &mut [u8]) -> usize
 }
 
 // Writes the bytecode text of words alone, or leaves the text as it is where it is too short.
-// Promises: bytecode-left, same-bytecode.
+// Promises: bytecode-left, same-bytecode, source-reads-again.
 pub fn write_bytecode(words: &[u64], text: &mut [u8]) -> Written
     ensures { λ r. ⌜ (writtenNumbered r ≡ countOf (bytecodeWritten (now (words .entry)) (length (now (text .entry))))) × (now (text .exit) ≡ textLeft (bytecodeWritten (now (words .entry)) (length (now (text .entry)))) (now (text .entry))) ⌝ }
 {

@@ -83,7 +83,7 @@ pub ruleset put-laws = (put-within, put-never, register-most, special-most, mnem
 -- ---- one text behind another: x is the row so far
 
 -- two texts
-behind : (x y z u v : List ℕ) → y ≡ x ++ u → z ≡ y ++ v → z ≡ x ++ (u ++ v)
+pub behind : (x y z u v : List ℕ) → y ≡ x ++ u → z ≡ y ++ v → z ≡ x ++ (u ++ v)
 behind x y z u v e f = f ∙ ap (λ (s : List ℕ). s ++ v) e ∙ append-assoc x u v
 
 module _ (x y z t : List ℕ) (r : OlaRegister) (v : ℕ) where

@@ -54,7 +54,7 @@ use Rattle.promises.specs.Promises.{counts-answered, words-left, table-l
 -- ---- the printing source
 
 -- `mov r1 -1`, `call f`, `end`, and f's `ret`
-abbrev printingProgram : List BinaryInstruction
+abbrev pub printingProgram : List BinaryInstruction
 printingProgram =
     made MOV Empty (aNumber 18446744069414584320) (RegisterOperand R1)
     ∷ made CALL Empty (aNumber 5) Empty
@@ -62,7 +62,7 @@ printingProgram =
     ∷ made RET Empty Empty Empty
     ∷ []
 
-abbrev printingAccepted : Accepted
+abbrev pub printingAccepted : Accepted
 printingAccepted = record {
   labels = 3;
   program = printingProgram;
@@ -70,7 +70,7 @@ printingAccepted = record {
   hosts = [];
 }
 
-printing-accepted : assembled printingSource [] plenty ≡ ok printingAccepted
+pub printing-accepted : assembled printingSource [] plenty ≡ ok printingAccepted
 unfolding isSpace isDigit isLetter isWord same total scan all parts _>>=_ _>>_ refuseIf refuseAt digitValue valueFrom numeral operations firstOperation registers registerOf specialOf signed numberOf placed filledParts piecesFrom linePieces rowPieces isSourceNumber sourceNumber shapes firstMatch arranged operandsOf arrangedIf isCallRow isPairRow labelRow rowOf nameAt cutAtCalls scopesThat rowsOfScopes instructions labelRows holder withoutLastEmpty labelsAfterHead listedLabels hostsFrom firstAbove127 readRows rowsRead sortedOf tabled hostsOf programWords general memory canonicalBy canonicalFrom firstMisplaced encodedRows assembled
 printing-accepted = refl
 
@@ -102,7 +102,7 @@ printing-text : take (length (bytecodeOf (printingAccepted .words))) (textLeft (
 unfolding grouped linesOfGroups joined digitsOf digitCount
 printing-text = bytecode-left printingSource [] plenty printingAccepted printing-accepted (replicate 200 0) (omega arith)
 
-printing-opens : opened (bytecodeOf (printingAccepted .words)) ≡ ok printingProgram
+pub printing-opens : opened (bytecodeOf (printingAccepted .words)) ≡ ok printingProgram
 printing-opens = bytecode-opens printingSource [] plenty printingAccepted printing-accepted
 
 -- its rows, main's scope first

@@ -25,13 +25,13 @@ use Rattle.decoder.specs.Open.{allDecoded, opened, run}
 use Rattle.promises.specs.Promises.{opened-run, opened-form}
 
 -- document 01's ret with the bits of r1 and r2 in dst, a mov without a source, a call whose number is decimal, and a call without its number
-abbrev strange : List ℕ
+abbrev pub strange : List ℕ
 strange = bytes "0x0000000600800000\n0x0000000208000000\n0x4000000001000000\n10\n0x4000000001000000"
 
-abbrev strangeRead : List BinaryInstruction
+abbrev pub strangeRead : List BinaryInstruction
 strangeRead = made RET Empty Empty (RegisterOperand R1) ∷ made MOV Empty (SpecialReg PSP) (RegisterOperand R1) ∷ made CALL Empty (aNumber 10) Empty ∷ []
 
-strange-opens : opened strange ≡ ok strangeRead
+pub strange-opens : opened strange ≡ ok strangeRead
 unfolding isDigit all parts lines ended _>>=_ _>>_ refuseIf refuseAt digitValue valueFrom numeral unprefixed hexadecimal operations firstOperation registers firstRegister signed numberOf grouped completeOf firstUnreadable builtWith onNumber onOperation onFirst allDecoded opened
 strange-opens = refl
 

@@ -10,8 +10,10 @@ pub mod SameLaws
 pub mod NamePromise
 pub mod LateLaws
 pub mod RoomLaws
+pub mod SourcePromise
 pub mod Promises
 pub mod Applied
 pub mod AppliedPairs
 pub mod AppliedBytecode
 pub mod AppliedBuilds
+pub mod AppliedSource

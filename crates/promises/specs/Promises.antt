@@ -5,13 +5,13 @@
 -- definitions for their answers and for what they leave.
 -- A source is accepted where assembling it, with some prophets and some room, answers ok a: a .program is then its canonical program, made
 -- from its rows, a .words its words, and bytecodeOf (a .words) its bytecode.
-use Prim.Native.Nat.{ℕ, suc, _+_, _-_, _≤_, _<_}
+use Prim.Native.Nat.{ℕ, suc, _+_, _-_, _*_, _≤_, _<_}
 use mathlib.Core.Logic.{_↔_, _⊎_}
 use mathlib.Core.Path.{_≡_, refl, sym, ap, _∙_}
-use mathlib.Core.List.{List, _++_, map}
-use mathlib.Core.Bool.{true}
-use mathlib.Core.Option.{some}
-use lib.ListN.{length, take, getD, replicate, getElem?, length-map}
+use mathlib.Core.List.{List, [], _++_, map}
+use mathlib.Core.Bool.{true, false}
+use mathlib.Core.Option.{none, some}
+use lib.ListN.{length, take, drop, getD, replicate, getElem?, length-map}
 use Rattle.text.specs.Lines.{lines}
 use Rattle.text.specs.Lists.{total}
 use Rattle.text.specs.Answer.{Answer, ok, refused, _>>=_}
@@ -32,7 +32,7 @@ use Rattle.relocate.specs.declared.LabelEntry.{LabelEntry}
 use Rattle.relocate.specs.declared.RoomFigures.{RoomFigures}
 use Rattle.relocate_laws.proofs.KeptLaws.{places-ascend, later-kept as last-is-kept}
 use Rattle.program.specs.Words.{programWords, emittedLength, wordsBefore}
-use Rattle.program.specs.Bytecode.{bytecodeOf, bytecodeWritten, textLeft}
+use Rattle.program.specs.Bytecode.{bytecodeOf, within, bytecodeWritten, textLeft}
 use Rattle.program.specs.declared.BinaryInstruction.{BinaryInstruction}
 use Rattle.program.specs.CanonicalForm.{CanonicalForm, InOrder}
 use Rattle.program.proofs.FormLaws.{words-before}
@@ -47,12 +47,17 @@ use Rattle.decoder.specs.Steps.{runAt, nthCall}
 use Rattle.decoder.proofs.BytecodeLaws.{opens}
 use Rattle.decoder.proofs.OffsetLaws.{run-by-offsets as offsets-run}
 use Rattle.decoder.proofs.OpenedLaws.{opened-run as run-opened, opened-form as form-opened}
+use Rattle.source.specs.SourceText.{sourceText, isOffRow, firstOffRow, sourceWritten}
+use Rattle.source_laws.proofs.OffRowLaws.{first-off-row as first-off, none-off-row as none-off, source-refused as refused-off, source-written as written-on-rows, no-row-reads-so as on-rows}
+use Rattle.source_laws.proofs.LengthLaws.{source-within, source-most}
+use Rattle.source_laws.proofs.AgainLaws.{words-by-lines}
 use Rattle.promises.specs.Terms.{SameProgram, operandAt, contentAt, Stands, IsPosition, IsPositionBefore, HoldsPosition, IsKept, rowsByLines}
 use Rattle.promises.specs.TieLaws.{left-front, bytecode-fits, nth-answer, lines-read}
 use Rattle.promises.specs.SameLaws.{words-same, bytecode-same, program-alone}
 use Rattle.promises.specs.AcceptedLaws.{accepted-words, accepted-readable, accepted-short, accepted-form}
 use Rattle.promises.specs.NamePromise.{rows-there, stands, lengths-one, address-words, names-counted, entries-left, column-left, table-positions}
 use Rattle.promises.specs.RoomLaws.{room-built, counted-words, refused-so, room-enough, room-late}
+use Rattle.promises.specs.SourcePromise.{left-written, left-refused, written-assembles, written-again, accepted-written, written-same}
 
 -- What a caller holds after an accepted call.
 module _ (s prophets : List ℕ) (room : Room) (a : Accepted) (h : assembled s prophets room ≡ ok a) where
@@ -251,6 +256,97 @@ module _ (s prophets : List ℕ) (room : Room) (a : Accepted) (h : assembled s p
   -- With the last theorem: the count kept is the count of different hosts.
   pub kept-counted : (totalsOf a .kept ≡ length (keptFrom 0 (a .hosts))) × Ascending (map placeOf (keptFrom 0 (a .hosts)))
   kept-counted = (refl, places-ascend 0 (a .hosts))
+
+-- Any bytecode, and any text lent for its source.
+module _ (bytecode lent : List ℕ) where
+  -- An accepted call leaves the source in the text's first bytes, as many as it answers, and past them what stood there; a refused call leaves the whole
+  -- text as it was.
+  -- Of source_write::write_source and ola_write_source.
+  -- A caller may take the bytes up to the count answered for the source, and lend the same text again after a refusal.
+  pub source-left : ((t : List ℕ) → sourceWritten bytecode (length lent) ≡ ok t
+      → (take (length t) (textLeft (sourceWritten bytecode (length lent)) lent) ≡ t)
+      × (drop (length t) (textLeft (sourceWritten bytecode (length lent)) lent) ≡ drop (length t) lent))
+      × ((n d : ℕ) → sourceWritten bytecode (length lent) ≡ refused n d → textLeft (sourceWritten bytecode (length lent)) lent ≡ lent)
+  source-left = (left-written bytecode lent, left-refused bytecode lent)
+
+-- The source of any text that opens, whoever wrote it.
+module _ (text : List ℕ) (is : List BinaryInstruction) (h : opened text ≡ ok is) where
+  -- Writing it is refused with 26 and k exactly where k is the index of the first instruction off its row, whatever is lent.
+  -- Of source_write::write_source and ola_write_source, given that text; of source_rows::is_off_row, which says of an instruction whether it is.
+  -- Who is told 26 knows that no longer text helps, and which instruction to look at.
+  pub source-refused : (room k : ℕ) → (sourceWritten text room ≡ refused 26 k) ↔ (firstOffRow 0 is ≡ some k)
+  source-refused = refused-off text is h
+
+  -- That index is the one whose instruction is off its row, has contents in a place that its operation's row does not have, while none before it is; and
+  -- there is no such index exactly where no instruction is.
+  -- Of the same functions.
+  -- With the last theorem: 26 comes for such an instruction, always and for nothing else.
+  pub first-off-row : ((k : ℕ) → (firstOffRow 0 is ≡ some k)
+      ↔ ((i : BinaryInstruction) × (getElem? is k ≡ some i) × (isOffRow i ≡ true)
+      × ((j : ℕ) → j < k → (b : BinaryInstruction) → getElem? is j ≡ some b → isOffRow b ≡ false)))
+      × ((firstOffRow 0 is ≡ none) ↔ All (λ i. isOffRow i ≡ false) is)
+  first-off-row = (first-off is, none-off is)
+
+  -- Where there is none and the text lent is long enough, `main:` and a row for each instruction are written.
+  -- Of source_write::write_source and ola_write_source, given that text; of source_rows::put_source_row, which writes one of these rows.
+  -- Besides 26 only too short a text keeps a bytecode that opens from having its source.
+  pub source-written : (room : ℕ) → firstOffRow 0 is ≡ none → length (sourceText is) ≤ room → sourceWritten text room ≡ ok (sourceText is)
+  source-written = written-on-rows text is h
+
+  -- 5 bytes and 21 for each line of the bytecode are long enough, and 2,970,976 for any bytecode.
+  -- Of source_write::write_source and ola_write_source.
+  -- A caller knows before the call how much to lend.
+  pub source-fits : (length (sourceText is) ≤ 5 + 21 * length (lines text)) × (length (sourceText is) ≤ 2970976)
+  source-fits = (source-within text is h, source-most text is h)
+
+  -- What was written, if it has at most 65,536 bytes, assembles to the instructions that were read, with mov's psp taken as empty: to them and no others, in
+  -- their order, with their words. Asked for are a list that names no prophet, one entry of the table and as many words as these.
+  -- Of source_write::write_source and ola_write_source, then, given what was written, of encoder_assemble::assemble_parts, encoder_entries::assemble,
+  -- ola_assemble_parts and ola_assemble.
+  -- A reviewer who holds nothing but a bytecode may read its source and build it, and has the program back. Its words need not be those of the bytecode:
+  -- bits that no instruction is read from are gone.
+  pub source-assembles : (space : ℕ) (t : List ℕ) → sourceWritten text space ≡ ok t → length t ≤ 65536 → (prophets : List ℕ) → listedLabels prophets ≡ ok []
+      → (room : Room) → 1 ≤ room .entries → length (programWords (map asCanonical is)) ≤ room .words → assembled t prophets room
+      ≡ ok (record { labels = 1; program = map asCanonical is; words = programWords (map asCanonical is); hosts = [] })
+  source-assembles = written-assembles text is h
+
+  -- The words that it asks room for are at most as many as the lines of the bytecode.
+  -- Of the same functions.
+  -- A caller knows before the call how many words to lend: one for each line is enough.
+  pub source-words-fit : length (programWords (map asCanonical is)) ≤ length (lines text)
+  source-words-fit = words-by-lines text is h
+
+  -- The bytecode of these words, where what was written has at most 65,536 bytes, opens to the same instructions that were read, mov's psp again as psp.
+  -- Of the same functions, and the text that program_bytecode::write_bytecode and ola_write_bytecode leave, given their words; then of
+  -- decoder_open::open_text, decoder_bytecode::open and ola_open, given that text.
+  -- Who opens what was built of the source reads, one by one, what was read from the bytecode that it was written of.
+  pub source-reads-again : (space : ℕ) (t : List ℕ) → sourceWritten text space ≡ ok t → length t ≤ 65536
+      → opened (bytecodeOf (programWords (map asCanonical is))) ≡ ok is
+  source-reads-again = written-again text is h
+
+-- The source of one accepted source's bytecode.
+module _ (s prophets : List ℕ) (room : Room) (a : Accepted) (h : assembled s prophets room ≡ ok a) where
+  -- No instruction of its program is off its row.
+  -- Of encoder_assemble::assemble_parts, encoder_entries::assemble, ola_assemble_parts and ola_assemble, whose words are this program's; of
+  -- source_rows::is_off_row.
+  -- 26 turns nothing away that a source can say.
+  pub no-row-reads-so : All (λ i. isOffRow i ≡ false) (a .program)
+  no-row-reads-so = on-rows s prophets room a h
+
+  -- Writing the source of its bytecode answers the text of its program, and 23 where that is longer than the text lent.
+  -- Of source_write::write_source and ola_write_source, given its bytecode.
+  -- Of what was published from a source, a source is to be had again.
+  pub source-of-accepted : (space : ℕ) → sourceWritten (bytecodeOf (a .words)) space ≡ within space (sourceText (a .program))
+  source-of-accepted = accepted-written s prophets room a h (bytecode-opens s prophets room a h)
+
+  -- That text, if it has at most 65,536 bytes, assembles to the same program and the same words, with a list that names no prophet, one entry of the table
+  -- and room for the words.
+  -- Of encoder_assemble::assemble_parts, encoder_entries::assemble, ola_assemble_parts and ola_assemble, given that text.
+  -- A reviewer who builds what was written of published words may compare the words: they are the same.
+  pub source-same-words : length (sourceText (a .program)) ≤ 65536 → (others : List ℕ) → listedLabels others ≡ ok []
+      → (space : Room) → 1 ≤ space .entries → length (a .words) ≤ space .words
+      → assembled (sourceText (a .program)) others space ≡ ok (record { labels = 1; program = a .program; words = a .words; hosts = [] })
+  source-same-words = written-same s prophets room a h
 
 -- Any source: its rows are made of its lines as Rust's `lines` gives them, each from the place where it starts.
 -- Of encoder_assemble::assemble_parts, encoder_entries::assemble, ola_assemble_parts and ola_assemble, which read these rows.

@@ -62,7 +62,8 @@ pub lines-none : lines [] ≡ []
 unfolding lines ended parts
 lines-none = refl
 
-without-return-le : (l : List ℕ) → length (withoutReturn l) ≤ length l
+-- a line without its return is no longer
+pub without-return-le : (l : List ℕ) → length (withoutReturn l) ≤ length l
 without-return-le l = go (endsInReturn l)
   where
     go : (t : Bool) → length (cond t (take (length l - 1) l) l) ≤ length l

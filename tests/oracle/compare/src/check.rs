@@ -3,7 +3,9 @@ use crate::brackets::{self, Brackets, Outside};
 use crate::hexadecimal::{self, Hexadecimals};
 use crate::meter::{self, Build, Meters};
 use crate::paper::{self, Respelt, ORDER};
-use crate::port::{self, Assembly, Encoding, Figures, Label, Lent, Name, NumberedInstruction, NumberedPlace, Opened, Room, Step, Written};
+use crate::port::{self, Assembly, Encoding, Figures, Label, Lent, Name, NumberedInstruction, NumberedPlace, Opened, Room, Step};
+use crate::source::{self, Sources};
+use crate::writing::writes;
 use oracle::{Answer, Assembled, Instruction, Place};
 use std::borrow::Cow;
 use std::collections::{BTreeMap, HashMap};
@@ -25,6 +27,7 @@ pub enum Expected {
     Words(Vec<u64>),
     Rows(Vec<String>),
     Hosts(Vec<u64>),
+    /// Of an instruction its row, of a bytecode or a source the source that is written of it.
     Text(String),
     Refused(u64, u64),
     Room(Figures),
@@ -75,6 +78,7 @@ pub struct Checker {
     pub hexadecimals: Hexadecimals,
     pub brackets: Brackets,
     pub meters: Meters,
+    pub sources: Sources,
     /// How often each answer was due: what was asked, and the refusal, 0 for acceptance.
     pub answers: BTreeMap<(&'static str, u64), u64>,
     /// Whether the case is to be accepted.
@@ -103,13 +107,6 @@ fn same_list<T: PartialEq + Debug>(what: &str, expected: &[T], got: &[T]) -> Out
         None => Ok(()),
         Some(n) => same(&format!("{what}, entry {n} of {}", got.len()), &expected.get(n), &got.get(n)),
     }
-}
-
-fn same_bytes(what: &str, expected: &[u8], got: &[u8]) -> Outcome {
-    if expected == got {
-        return Ok(());
-    }
-    Err(format!("{what}\n    expected \"{}\"\n    the port \"{}\"", expected.escape_ascii(), got.escape_ascii()))
 }
 
 /// -2^127, at which the Rust panics, made -2^128, which it refuses; document 01 refuses both alike.
@@ -173,6 +170,12 @@ impl Told {
             kept: 0,
             bytecode: String::new(),
         }
+    }
+
+    /// `main:` and rows of these words.
+    fn of_main(words: Vec<u64>) -> Told {
+        let main = Label { kind: 0, mapped: !words.is_empty(), start: 0, length: 4, address: 0 };
+        Told { untabled: None, entries: vec![main], words, ..Told::refused(0, 0) }
     }
 
     fn refusal(&self) -> Option<(u64, u64)> {
@@ -251,7 +254,7 @@ fn held(source: &str, entries: &[Label], kind: u8) -> HashMap<String, u64> {
 }
 
 /// The words of a bytecode that the Rust wrote.
-fn words_of(bytecode: &str) -> Vec<u64> {
+pub fn words_of(bytecode: &str) -> Vec<u64> {
     bytecode.split('\n').filter(|line| !line.is_empty()).map(|line| u64::from_str_radix(&line[2..], 16).unwrap()).collect()
 }
 
@@ -279,6 +282,7 @@ impl Checker {
             hexadecimals: Hexadecimals::default(),
             brackets: Brackets::default(),
             meters: Meters::new(dry, near_every),
+            sources: Sources::default(),
             answers: BTreeMap::new(),
             accepted: false,
         }
@@ -312,14 +316,14 @@ impl Checker {
         match expected {
             Expected::Words(words) => agreed("refusal and words", &(None, words), &(refused, &told.words))?,
             Expected::Hosts(hosts) => agreed("refusal and hosts", &(None, hosts), &(refused, &told.hosts))?,
-            Expected::Rows(_) => agreed("refusal", &None, &refused)?,
+            Expected::Rows(_) | Expected::Text(_) => agreed("refusal", &None, &refused)?,
             Expected::Refused(number, detail) => agreed("refusal", &Some((*number, *detail)), &refused)?,
             Expected::Room(figures) => agreed("room", figures, &told.figures)?,
             Expected::Builds(from, builds) => {
                 let builds: Vec<(&Build, Tried)> = builds.iter().map(|build| (build, told.tried(build.room))).collect();
                 meter::named(source, prophets, *from, &builds, self.dry)?;
             }
-            Expected::Text(_) | Expected::Nothing => {}
+            Expected::Nothing => {}
         }
         if let Some(room) = room {
             same("room_of", &told.figures, &room)?;
@@ -332,7 +336,8 @@ impl Checker {
         }
         if refused.is_none() {
             self.words(&told.words, &told.bytecode)?;
-            self.opened(told.bytecode.as_bytes(), expected)?;
+            let read = self.opened(told.bytecode.as_bytes(), expected)?;
+            self.written(told.bytecode.as_bytes(), &read, Some(&told.words), expected)?;
         }
         Ok(())
     }
@@ -488,30 +493,7 @@ impl Checker {
         if self.dry {
             return Ok(());
         }
-        self.writes("write_bytecode", Ok(text.as_bytes()), &|room, lent| port::write_bytecode(words, room, lent))
-    }
-
-    /// Writing into a text that has more than enough room, just enough, one byte less, and none.
-    fn writes(&mut self, what: &str, text: Result<&[u8], (u64, u64)>, write: &dyn Fn(usize, &mut [u8]) -> Written) -> Outcome {
-        let length = text.map_or(64, |text| text.len());
-        let mut rooms = vec![length + 2, length, 0];
-        rooms.extend(length.checked_sub(1));
-        for room in rooms {
-            let mut left = port::lent_text(room);
-            let answer = match text {
-                Err((refusal, detail)) => Written { refusal, detail, written: 0 },
-                Ok(text) if room < text.len() => Written { refusal: 23, detail: 0, written: 0 },
-                Ok(text) => {
-                    left[..length].copy_from_slice(text);
-                    Written { refusal: 0, detail: 0, written: length as u64 }
-                }
-            };
-            let mut lent = port::lent_text(room);
-            let got = write(room, &mut lent);
-            same(&format!("{what}, room {room}"), &answer, &got)?;
-            same_bytes(&format!("text of {what}, room {room}"), &left, &lent)?;
-        }
-        Ok(())
+        writes("write_bytecode", Ok(text.as_bytes()), &|room, lent| port::write_bytecode(words, room, lent))
     }
 
     // ---- instructions
@@ -552,7 +534,7 @@ impl Checker {
         let numbered = port::numbered(instruction);
         for given in [numbered, overlaid(numbered)] {
             same("encode", &encoding, &port::encode(given))?;
-            self.writes("listing_row", text, &|room, lent| port::listing_row(given, room, lent))?;
+            writes("listing_row", text, &|room, lent| port::listing_row(given, room, lent))?;
         }
         Ok(())
     }
@@ -563,16 +545,18 @@ impl Checker {
             return Ok(());
         }
         same("encode", &Encoding { refusal: 255, ..Encoding::default() }, &port::encode(instruction))?;
-        self.writes("listing_row", Err((255, 0)), &|room, lent| port::listing_row(instruction, room, lent))
+        writes("listing_row", Err((255, 0)), &|room, lent| port::listing_row(instruction, room, lent))
     }
 
     // ---- bytecode
 
     fn bytecode(&mut self, text: &[u8], expected: &Expected) -> Outcome {
         if text.len() > paper::BYTECODE_LIMIT {
+            self.written(text, &Answer::Refused(14, 0), None, expected)?;
             return self.too_long(text);
         }
-        self.opened(text, expected)?;
+        let read = self.opened(text, expected)?;
+        self.written(text, &read, None, expected)?;
         if self.dry {
             return Ok(());
         }
@@ -609,8 +593,21 @@ impl Checker {
         Ok(())
     }
 
-    /// Opening, and then the run of calls by lines and by offsets, where the text opens.
-    fn opened(&mut self, text: &[u8], expected: &Expected) -> Outcome {
+    /// Writing a source of a bytecode in which the Rust reads this, and assembling that; `words` are those of the source that it was assembled from.
+    fn written(&mut self, bytecode: &[u8], read: &Answer<Vec<Instruction>>, words: Option<&[u64]>, expected: &Expected) -> Outcome {
+        let due = self.sources.due(read, words, expected)?;
+        if self.dry {
+            return Ok(());
+        }
+        source::port_writes(bytecode, &due)?;
+        let Ok(text) = due.text else { return Ok(()) };
+        let told = due.words.map_or(Told::refused(1, 0), Told::of_main);
+        let room = Room { columns: [1; 5], words: told.words.len(), hosts: 0 };
+        self.room(text.as_bytes(), b"", &told.tried(room))
+    }
+
+    /// Opening, and then the run of calls by lines and by offsets, where the text opens. It answers what the Rust reads.
+    fn opened(&mut self, text: &[u8], expected: &Expected) -> Result<Answer<Vec<Instruction>>, String> {
         let told = told_text(text);
         let mut rust = oracle::decode(&told);
         if rust == Answer::Panicked {
@@ -624,25 +621,27 @@ impl Checker {
             Answer::Panicked => return Err("the Rust panics in decode".to_string()),
         };
         match expected {
+            Expected::Rows(_) | Expected::Text(_) | Expected::Refused(26, _) => agreed("refusal", &(0, 0), &(opened.refusal, opened.detail))?,
             Expected::Refused(number, detail) => agreed("refusal", &(*number, *detail), &(opened.refusal, opened.detail))?,
-            Expected::Rows(_) => agreed("refusal", &(0, 0), &(opened.refusal, opened.detail))?,
             _ => {}
         }
         if !self.dry {
             same("open", &opened, &port::open(text))?;
         }
-        let Answer::Accepted(list) = rust else { return Ok(()) };
+        let Answer::Accepted(list) = &rust else { return Ok(rust) };
         if let Expected::Rows(rows) = expected {
             let listed: Vec<String> = list.iter().map(|i| if let Answer::Accepted(row) = oracle::row(i) { row } else { "24".to_string() }).collect();
             agreed("rows", rows, &listed)?;
         }
-        for instruction in &list {
+        let mut unequal = list.clone();
+        unequal.dedup();
+        for instruction in &unequal {
             self.instruction(instruction, &Expected::Nothing)?;
         }
-        if self.dry {
-            return Ok(());
+        if !self.dry {
+            self.run(text, list)?;
         }
-        self.run(text, &list)
+        Ok(rust)
     }
 
     fn run(&mut self, text: &[u8], list: &[Instruction]) -> Outcome {
@@ -651,8 +650,8 @@ impl Checker {
         for (n, instruction) in list.iter().enumerate() {
             let after = line + lines_of(instruction);
             let step = |line: usize| Step { refusal: 0, detail: 0, line: line as u64, instruction: port::numbered(instruction) };
-            // A call by its line goes over all lines before it.
-            if list.len() < 200 || n % 97 == 0 {
+            // A call by its line goes over all lines before it, so of a long list some two hundred are asked at the most.
+            if list.len() < 200 || n % 97.max(list.len() / 200) == 0 {
                 same(&format!("next, call {n}"), &step(after), &port::next(text, line))?;
             }
             same(&format!("next_at, call {n}"), &step(starts[after]), &port::next_at(text, starts[line]))?;
@@ -693,7 +692,7 @@ fn told_text(text: &[u8]) -> Cow<'_, str> {
 }
 
 /// Where each line starts, and the text's end.
-fn line_starts(text: &[u8]) -> Vec<usize> {
+pub fn line_starts(text: &[u8]) -> Vec<usize> {
     let mut starts = vec![0];
     starts.extend(text.iter().enumerate().filter(|(_, byte)| **byte == b'\n').map(|(n, _)| n + 1));
     if *starts.last().unwrap() != text.len() {

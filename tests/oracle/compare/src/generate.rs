@@ -5,6 +5,7 @@ use crate::lists::MNEMONICS;
 use crate::numbers::{decimal, number};
 use crate::paper::ORDER;
 use crate::random::Random;
+use crate::source::rows_alone;
 use oracle::{Instruction, Place};
 
 pub struct Generator {
@@ -14,17 +15,18 @@ pub struct Generator {
     pub draw: fn(&mut Random) -> Case,
 }
 
-pub const GENERATORS: [Generator; 13] = [
-    Generator { name: "scopes, labels and prophets", share: 21, draw: scopes },
+pub const GENERATORS: [Generator; 14] = [
+    Generator { name: "scopes, labels and prophets", share: 20, draw: scopes },
     Generator { name: "many names", share: 3, draw: many_names },
     Generator { name: "whitespace, line endings, comments, numbers", share: 15, draw: spelling },
     Generator { name: "any operand in any place", share: 4, draw: any_places },
-    Generator { name: "damaged sources", share: 17, draw: damaged_source },
+    Generator { name: "damaged sources", share: 15, draw: damaged_source },
     Generator { name: "soup of bytes and pieces", share: 7, draw: soup },
     Generator { name: "two mains, bytes above 127, lists of another form", share: 3, draw: departures },
-    Generator { name: "bytecode of written instructions", share: 8, draw: written_bytecode },
+    Generator { name: "bytecode of written instructions", share: 6, draw: written_bytecode },
+    Generator { name: "bytecode of rows, some with contents off them", share: 6, draw: rows_alone },
     Generator { name: "bytecode of random bits", share: 6, draw: random_bits },
-    Generator { name: "damaged bytecode", share: 7, draw: damaged_bytecode },
+    Generator { name: "damaged bytecode", share: 6, draw: damaged_bytecode },
     Generator { name: "soup of bytecode characters", share: 4, draw: bytecode_soup },
     Generator { name: "instructions", share: 4, draw: instruction },
     Generator { name: "words alone", share: 1, draw: words },

@@ -4,6 +4,8 @@
 //! outside the comparison as it stands, by document 02's Point 2: the port gets it as it is, the Rust respelt, and such sources are counted apart. A
 //! source with a hexadecimal number the Rust gets in decimal, by Point 4 (hexadecimal.rs), and these are counted apart too. So are sources with a bracketed
 //! operand outside mload and mstore, which are outside by Point 6: the Rust gets them with psp in its place, and the refusal follows from that (brackets.rs).
+//! Of every bytecode that the Rust reads the source that is due or 26 is made of its instructions; the port must write it, and it assembles back to the
+//! same instructions (source.rs).
 //! One build meter is carried through the whole run: every source is built on it in every room that is tried, and its total is to be the sum of the words that
 //! the Rust gives for what is accepted. One source in fifty also begins at a meter of 2^64 - 1 - k, for each k from 0 to 3 (meter.rs).
 //!   compare [COUNT] [SEED]      default 20000 and 1
@@ -14,7 +16,8 @@
 //! for a counted length, no respelt source with a name, with an unreadable operand, or accepted, no source with a hexadecimal number that was accepted,
 //! accepted with one in brackets, unreadable, or unreadable with one of p or more, no source with a bracketed operand outside mload and mstore refused with 25,
 //! with 25 and all of them in dst, or with 3, 5, 6, 8, 9, 10 or 11, a source that was not built on the meter, or none that began near the stop, came to just
-//! 2^64 - 1, or was stopped there.
+//! 2^64 - 1, or was stopped there, no source written, written of an accepted source's bytecode, assembled back, or too long for that, none refused with 26, at a
+//! later instruction or as opening refuses it, an operation without a row written, or one whose row lacks a place without a 26.
 mod brackets;
 mod check;
 mod generate;
@@ -29,6 +32,8 @@ mod paper;
 mod port;
 mod random;
 mod shrink;
+mod source;
+mod writing;
 
 use brackets::Brackets;
 use check::{Case, Checker, Expected, Respellings, Rooms};
@@ -36,6 +41,7 @@ use generate::{GENERATORS, LARGE_EVERY};
 use hexadecimal::Hexadecimals;
 use meter::Metering;
 use random::Random;
+use source::Sources;
 use std::panic::{catch_unwind, AssertUnwindSafe};
 use std::sync::atomic::Ordering::Relaxed;
 
@@ -52,6 +58,8 @@ struct Run {
     cases: usize,
     differences: usize,
     counts: Vec<Count>,
+    /// What was written of bytecodes when the drawing began.
+    listed: Sources,
 }
 
 /// The cases of one list or generator: how many, how many of them are accepted, and how many the whole list has.
@@ -138,6 +146,7 @@ impl Run {
 
     fn random(&mut self, most: usize, seed: u64) {
         let mut r = Random::new(seed);
+        self.listed = self.checker.sources;
         let large = self.begin("large sources", 0);
         let counts: Vec<usize> = GENERATORS.iter().map(|generator| self.begin(generator.name, 0)).collect();
         let by_share: Vec<usize> = GENERATORS.iter().enumerate().flat_map(|(n, generator)| vec![n; generator.share]).collect();
@@ -185,6 +194,9 @@ impl Run {
         let (total, sum) = self.checker.meters.carried();
         println!("The build meter: {builds} builds of {sources} sources, {accepted} accepted; its total {total}, the sum of the Rust's words {sum}");
         println!("  from 2^64 - 1 - k, k from 0 to 3: {near} sources, of which {exact} came to just 2^64 - 1 and {stopped} were stopped there");
+        let Sources { written, of_sources, assembled, long, off_row, later, unopened, .. } = self.checker.sources;
+        println!("Sources written of bytecodes: {written} ({of_sources} of the bytecode of a source), {assembled} assembled back, {long} too long for that");
+        println!("  refused with 26: {off_row} ({later} not at the first instruction), as opening refuses them: {unopened}");
         println!("Calls of the port:");
         for (name, calls) in &port::CALLS {
             println!("  {name}  {}", calls.load(Relaxed));
@@ -194,7 +206,7 @@ impl Run {
 
     /// Whether something was not asked that was to be compared: a function of the port, the room of a source, a counted length of the Rust, a respelt source
     /// of each sort, one that is accepted, a source with a hexadecimal number of each sort, one with brackets outside mload and mstore of each sort, a source on
-    /// the meter, one near its stop of each sort.
+    /// the meter, one near its stop of each sort, a source written or refused of each sort.
     fn left_out(&self) -> bool {
         let Rooms { sources, counted, .. } = self.checker.rooms;
         let Respellings { accepted, unreadable, .. } = self.checker.respellings;
@@ -206,7 +218,8 @@ impl Run {
         let hexadecimal = accepted > 0 && bracketed > 0 && unreadable > 0 && large > 0;
         let Brackets { refusals, in_dst } = self.checker.brackets;
         let bracketed = [3, 5, 6, 8, 9, 10, 11, 25].iter().all(|number| refusals[*number] > 0) && in_dst > 0;
-        counted == 0 || !respelt || !hexadecimal || !bracketed || !self.checker.dry && !(called && metered)
+        let written = self.checker.sources.complete(&self.listed);
+        counted == 0 || !respelt || !hexadecimal || !bracketed || !written || !self.checker.dry && !(called && metered)
     }
 }
 
@@ -216,7 +229,8 @@ fn main() {
     let seed = arguments.get(1).copied().unwrap_or(1);
     let set = |name: &str| std::env::var(name).is_ok_and(|value| value == "1");
     oracle::silence();
-    let mut run = Run { checker: Checker::new(set("DRY"), COUNTED_EVERY, NEAR_EVERY), trace: set("TRACE"), cases: 0, differences: 0, counts: vec![] };
+    let checker = Checker::new(set("DRY"), COUNTED_EVERY, NEAR_EVERY);
+    let mut run = Run { checker, trace: set("TRACE"), cases: 0, differences: 0, counts: vec![], listed: Sources::default() };
     run.named();
     if let Ok(path) = std::env::var("MANUAL") {
         run.manual(&path);

@@ -1,4 +1,4 @@
-//! The cases of document 01, of document 02's Points 1 to 4 and 6 and of the readings of them, with what the papers say of them.
+//! The cases of document 01, of document 02's Points 1 to 4, 6 and 7 and of the readings of them, with what the papers say of them.
 use crate::brackets;
 use crate::check::{Case, Expected};
 use crate::hexadecimal;
@@ -6,6 +6,7 @@ use crate::limits::limits;
 use crate::meter::{Build, STOP};
 use crate::paper::ORDER;
 use crate::port::{Figures, Room};
+use crate::source;
 use oracle::{Instruction, Place};
 
 pub struct Named {
@@ -70,6 +71,7 @@ pub fn all() -> Vec<Named> {
         builds(),
         hexadecimal::numbers(),
         brackets::rows(),
+        source::cases(),
         reading_sources(),
         reading_lists(),
         reading_bytecodes(),
@@ -88,7 +90,7 @@ pub fn row(name: &'static str, text: &str, expected: Expected) -> Named {
 
 // ---- document 01
 
-const PRINTING: &str = "f:\nret\nmain:\nmov r1 -1\ncall f\n.PROPHET0_0:\nend";
+pub const PRINTING: &str = "f:\nret\nmain:\nmov r1 -1\ncall f\n.PROPHET0_0:\nend";
 
 fn scope_sources() -> Vec<Named> {
     vec![

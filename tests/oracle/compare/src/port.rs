@@ -4,7 +4,7 @@ use oracle::{Instruction, Place};
 use std::sync::atomic::{AtomicU64, Ordering::Relaxed};
 
 /// The functions of the header, and how often each was called.
-pub static CALLS: [(&str, AtomicU64); 12] = [
+pub static CALLS: [(&str, AtomicU64); 13] = [
     ("ola_assemble", AtomicU64::new(0)),
     ("ola_assemble_parts", AtomicU64::new(0)),
     ("ola_label_name", AtomicU64::new(0)),
@@ -17,6 +17,7 @@ pub static CALLS: [(&str, AtomicU64); 12] = [
     ("ola_room_of", AtomicU64::new(0)),
     ("ola_meter_open", AtomicU64::new(0)),
     ("ola_meter_build", AtomicU64::new(0)),
+    ("ola_write_source", AtomicU64::new(0)),
 ];
 
 fn called(function: usize) {
@@ -170,6 +171,7 @@ mod sys {
         ) -> Assembly;
         pub fn ola_label_name(source: *const u8, source_len: usize, entry: Label) -> Name;
         pub fn ola_write_bytecode(words: *const u64, words_len: usize, text: *mut u8, text_len: usize) -> Written;
+        pub fn ola_write_source(bytecode: *const u8, bytecode_len: usize, text: *mut u8, text_len: usize) -> Written;
         pub fn ola_open(text: *const u8, text_len: usize) -> Opened;
         pub fn ola_next(text: *const u8, text_len: usize, line: usize) -> Step;
         pub fn ola_next_at(text: *const u8, text_len: usize, offset: usize) -> Step;
@@ -339,6 +341,11 @@ pub fn lent_text(room: usize) -> Vec<u8> {
 pub fn write_bytecode(words: &[u64], room: usize, text: &mut [u8]) -> Written {
     called(3);
     unsafe { sys::ola_write_bytecode(words.as_ptr(), words.len(), text.as_mut_ptr(), room) }
+}
+
+pub fn write_source(bytecode: &[u8], room: usize, text: &mut [u8]) -> Written {
+    called(12);
+    unsafe { sys::ola_write_source(bytecode.as_ptr(), bytecode.len(), text.as_mut_ptr(), room) }
 }
 
 pub fn open(text: &[u8]) -> Opened {

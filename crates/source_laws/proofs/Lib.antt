@@ -1,0 +1,10 @@
+pub mod ReadsAs
+pub mod PieceLaws
+pub mod PlaceLaws
+pub mod RowLaws
+pub mod AssembledLaws
+pub mod RowLengths
+pub mod LengthLaws
+pub mod AgainLaws
+pub mod CanonicalLaws
+pub mod OffRowLaws

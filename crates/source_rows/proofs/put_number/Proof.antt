@@ -1,0 +1,43 @@
+-- `put_number` meets its contract.
+use Rattle.text_write.proofs.Laws.{decimal-most}
+use Rattle.program_listing.proofs.Laws.{put-laws}
+use borrow.Author.Needs.{needs}
+use Rattle.source_rows.proofs.put_number.Statement.{statement}
+use Rattle.source_rows.proofs.put_number.Tie as tie
+
+put-decimal-requires : tie.Need-put-decimal-requires
+put-decimal-requires c κs = search needs
+
+enum-known-put : tie.Need-enum-known-put
+enum-known-put c = search needs
+
+add-result : tie.Need-add-result
+add-result c = search put-laws
+
+enum-told : tie.Need-enum-told
+enum-told c = search needs
+
+same-length : tie.Need-same-length
+same-length c = search needs
+
+returns : tie.Need-returns
+returns c = search (decimal-most, put-laws)
+
+same-length-2 : tie.Need-same-length-2
+same-length-2 c = search needs
+
+returns-2 : tie.Need-returns-2
+returns-2 c = absurd (search (decimal-most, put-laws))
+
+pub put-number-spec : {M : Type 1} → statement M
+put-number-spec =
+    tie.close
+    (tie.spec
+    put-decimal-requires
+    enum-known-put
+    add-result
+    enum-told
+    same-length
+    returns
+    same-length-2
+    returns-2)
