@@ -108,7 +108,7 @@ canonical-full o e (RegisterWithFactor r v) = refl
 canonical-full o e (SpecialReg PC) = refl
 canonical-full o e (SpecialReg PSP) = ap (λ (t : Bool). isFull (cond t Empty (SpecialReg PSP))) (bare-not-mov o e)
 
--- and is off its row just if it was
+-- an instruction as canonical is off its row just if it was
 off-as-canonical : (i : BinaryInstruction) → isOffRow (asCanonical i) ≡ isOffRow i
 off-as-canonical = off-changed op1AsCanonical canonical-full
 
@@ -163,7 +163,7 @@ read-full o e (RegisterWithOffset r v) = refl
 read-full o e (RegisterWithFactor r v) = refl
 read-full o e (SpecialReg s) = refl
 
--- and it is off its row just if the instruction is
+-- an instruction as it reads is off its row just if it was
 off-as-read : (i : BinaryInstruction) → isOffRow (asRead i) ≡ isOffRow i
 off-as-read = off-changed op1AsRead read-full
 
