@@ -8,11 +8,11 @@ use vm_opcodes::OlaOpcode;
 use vm_operands::ImmediateValue;
 
 // A count of rows, the source's line_num: the detail of refusals 3, 10, 11, 12 and 25. It is never added to a word address.
-#[derive(Drop)]
+#[derive(Clone, Copy)]
 pub struct RowCount(pub usize);
 
 // What a place of a source row holds. A label or a name is the part of the source that it stands in.
-#[derive(Drop)]
+#[derive(Clone, Copy)]
 pub enum OlaAsmOperand {
     Empty,
     ImmediateOperand {
@@ -44,14 +44,14 @@ pub enum OlaAsmOperand {
 }
 
 // What reading a piece as an operand finds.
-#[derive(Drop)]
+#[derive(Clone, Copy)]
 pub enum OperandRead {
     Is(OlaAsmOperand),
     Unreadable,
 }
 
 // An instruction row: its operation and its operands by place.
-#[derive(Drop)]
+#[derive(Clone, Copy)]
 pub struct OlaAsmInstruction {
     pub opcode: OlaOpcode,
     pub op0: OlaAsmOperand,
@@ -60,7 +60,7 @@ pub struct OlaAsmInstruction {
 }
 
 // A row. A label row is the part of the source that its name stands in, without the colon.
-#[derive(Drop)]
+#[derive(Clone, Copy)]
 pub enum AsmRow {
     Instruction(OlaAsmInstruction),
     LabelCall { start: usize, length: usize },
@@ -69,14 +69,14 @@ pub enum AsmRow {
 }
 
 // What reading a line finds.
-#[derive(Drop)]
+#[derive(Clone, Copy)]
 pub enum RowRead {
     Is(AsmRow),
     Unreadable,
 }
 
 // What reading a line finds: no row where it has no piece.
-#[derive(Drop)]
+#[derive(Clone, Copy)]
 pub enum LineRead {
     Blank,
     Row(AsmRow),
@@ -84,14 +84,14 @@ pub enum LineRead {
 }
 
 // A line that was read, and where the line after it starts.
-#[derive(Drop)]
+#[derive(Clone, Copy)]
 pub struct RowAt {
     pub read: LineRead,
     pub next: usize,
 }
 
 // Where something stands in a text, or that it stands nowhere.
-#[derive(Drop)]
+#[derive(Clone, Copy)]
 pub enum PlaceFound {
     At(usize),
     Nothing,
@@ -99,7 +99,7 @@ pub enum PlaceFound {
 
 // What the rows of a text add up to: how many, how many of them are label rows, instruction rows and call labels `main`; the counted length
 // and the words of the instructions; where the first call label starts, where main's scope begins, and the call label that ends it.
-#[derive(Drop)]
+#[derive(Clone, Copy)]
 pub struct Tally {
     pub rows: usize,
     pub labels: usize,
@@ -113,7 +113,7 @@ pub struct Tally {
 }
 
 // What a survey of a text finds: its sums, or an unreadable row, with the non-empty rows before it.
-#[derive(Drop)]
+#[derive(Clone, Copy)]
 pub enum Surveyed {
     Is(Tally),
     Unreadable(RowCount),

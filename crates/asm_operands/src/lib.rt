@@ -11,7 +11,7 @@ use vm_hardware::{RegisterFound, SpecialFound};
 use vm_operands::ImmediateValue;
 
 // What trying a shape finds: the piece has it and is this (unreadable where its number is out of range, and no further shape is tried), or it does not have it.
-#[derive(Drop)]
+#[derive(Clone, Copy)]
 pub enum Tried {
     Fits(OperandRead),
     Other,

@@ -10,7 +10,7 @@ use text::Piece;
 use vm_opcodes::{OlaOpcode, OpcodeFound};
 
 // The next operand of a row and where what follows it starts, a piece that is no operand, or that the row has ended.
-#[derive(Drop)]
+#[derive(Clone, Copy)]
 pub enum NextOperand {
     Is(OlaAsmOperand, usize),
     Bad,
@@ -18,7 +18,7 @@ pub enum NextOperand {
 }
 
 // Where a line ends: without its comment, and at its line feed or the source's end.
-#[derive(Drop)]
+#[derive(Clone, Copy)]
 pub struct LineEnds {
     pub end: usize,
     pub feed: usize,

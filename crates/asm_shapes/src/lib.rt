@@ -13,7 +13,7 @@ use vm_hardware::RegisterFound;
 use vm_operands::{ImmediateFound, ImmediateValue};
 
 // What a text says as the number n of a shape: a number, one that is out of range, or no number.
-#[derive(Drop)]
+#[derive(Clone, Copy)]
 pub enum SourceNumber {
     Is(ImmediateValue),
     OutOfRange,

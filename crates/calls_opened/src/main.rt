@@ -6,7 +6,7 @@ use decoder::{Found, NextRefusal, Opening};
 use libc::STDOUT_FILENO;
 
 // What opening a text and two calls of next answer.
-#[derive(Drop)]
+#[derive(Clone, Copy)]
 pub struct Answers {
     pub opening: Opening,
     pub first: Found,

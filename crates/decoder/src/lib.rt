@@ -5,7 +5,7 @@ use program::BinaryInstruction;
 pub const MAX_BYTECODE_BYTES: usize = 524_288;
 
 // Why a bytecode is not opened.
-#[derive(Drop)]
+#[derive(Clone, Copy)]
 pub enum OpenRefusal {
     // 14: above MAX_BYTECODE_BYTES.
     TextTooLong,
@@ -22,7 +22,7 @@ pub enum OpenRefusal {
 }
 
 // Why the next instruction is not read: the refusals of opening, for the lines read only and with index 0, and one more.
-#[derive(Drop)]
+#[derive(Clone, Copy)]
 pub enum NextRefusal {
     Open(OpenRefusal),
     // 20: none complete left.
@@ -30,28 +30,28 @@ pub enum NextRefusal {
 }
 
 // Whether a bytecode opens.
-#[derive(Drop)]
+#[derive(Clone, Copy)]
 pub enum Opening {
     Accepted,
     Refused(OpenRefusal),
 }
 
 // What asking for the next instruction finds.
-#[derive(Drop)]
+#[derive(Clone, Copy)]
 pub enum Found {
     Is(BinaryInstruction),
     Refused(NextRefusal),
 }
 
 // What a call of next on a text and a line answers, and the line reached: the same line after a refusal.
-#[derive(Drop)]
+#[derive(Clone, Copy)]
 pub struct LineStep {
     pub found: Found,
     pub line: usize,
 }
 
 // What a call of next on a text and an offset answers: how many lines were read, none after a refusal, and the offset of the line after them.
-#[derive(Drop)]
+#[derive(Clone, Copy)]
 pub struct StepAt {
     pub found: Found,
     pub lines: usize,

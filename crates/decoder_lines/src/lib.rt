@@ -12,7 +12,7 @@ use program::BinaryInstruction;
 use text_read::Numeral;
 
 // What stands in a bytecode from an offset on, the start of a line.
-#[derive(Drop)]
+#[derive(Clone, Copy)]
 pub enum GroupAt {
     // No line.
     Nothing,
@@ -35,7 +35,7 @@ pub enum GroupAt {
 }
 
 // The instruction that stands in a bytecode from an offset on: how many lines it has, and the offset of the line after it.
-#[derive(Drop)]
+#[derive(Clone, Copy)]
 pub enum InstructionAt {
     NoneLeft,
     Refused(OpenRefusal),

@@ -11,7 +11,7 @@ use decoder::{OpenRefusal, Opening};
 use decoder_lines::{GroupAt, InstructionAt};
 
 // The line of a first word that is no number, or none.
-#[derive(Drop)]
+#[derive(Clone, Copy)]
 pub enum UnreadableLine {
     At(usize),
     Nothing,

@@ -14,7 +14,7 @@ use vm_opcodes::{OlaOpcode, OpcodeFound};
 use vm_operands::{ImmediateFound, ImmediateValue, OlaOperand};
 
 // An instruction, or why a first word and a second line are none.
-#[derive(Drop)]
+#[derive(Clone, Copy)]
 pub enum Decoded {
     Is(BinaryInstruction),
     Refused(OpenRefusal),

@@ -3,7 +3,7 @@ use asm::RowCount;
 use relocate::RelocateRefusal;
 
 // Why a source is not assembled.
-#[derive(Drop)]
+#[derive(Clone, Copy)]
 pub enum AssembleRefusal {
     // 1 to 9.
     Relocate(RelocateRefusal),
@@ -20,7 +20,7 @@ pub enum AssembleRefusal {
 }
 
 // What assembling wrote: the table's entries, the words, the hosts, and how many prophets are kept.
-#[derive(Drop)]
+#[derive(Clone, Copy)]
 pub struct Totals {
     pub labels: usize,
     pub words: usize,
@@ -29,7 +29,7 @@ pub struct Totals {
 }
 
 // What assembling a source answers.
-#[derive(Drop)]
+#[derive(Clone, Copy)]
 pub enum Assembly {
     Refused(AssembleRefusal),
     Assembled(Totals),

@@ -14,14 +14,14 @@ use vm_opcodes::{OlaOpcode, RowPlaces};
 use vm_operands::{ImmediateValue, OlaOperand};
 
 // What a place of a row becomes, or that no mapped row holds the name in it.
-#[derive(Drop)]
+#[derive(Clone, Copy)]
 pub enum Resolved {
     Is(OlaOperand),
     Unknown,
 }
 
 // What an instruction row becomes.
-#[derive(Drop)]
+#[derive(Clone, Copy)]
 pub enum Canonical {
     Is(BinaryInstruction),
     // 10: a name or label that no mapped row of its kind holds.

@@ -9,7 +9,7 @@ use encoder_walks::Resolution;
 use relocate::{Layout, ProphetsListed};
 
 // How many prophets are listed, where refusals 8 to 13 and 25 turn nothing away.
-#[derive(Drop)]
+#[derive(Clone, Copy)]
 pub enum Checked {
     Is(usize),
     Refused(AssembleRefusal),

@@ -10,7 +10,7 @@ use encoder_canonical::Canonical;
 use program::BinaryInstruction;
 
 // What a line becomes, as Canonical says it of its row; Skip where it is no instruction row.
-#[derive(Drop)]
+#[derive(Clone, Copy)]
 pub enum CanonicalLine {
     Skip,
     Is(BinaryInstruction),
@@ -20,7 +20,7 @@ pub enum CanonicalLine {
 }
 
 // What was found at a line, and where the line after it starts.
-#[derive(Drop)]
+#[derive(Clone, Copy)]
 pub struct CanonicalAt {
     pub found: CanonicalLine,
     pub next: usize,

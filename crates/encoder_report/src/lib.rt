@@ -11,7 +11,7 @@ ghost use Rattle.encoder_report.specs.Printed.{printed_numbered, printed_count, 
 use text_write::Put;
 
 // How many bytes were printed, or that the text is too short for them.
-#[derive(Drop)]
+#[derive(Clone, Copy)]
 pub enum Printed {
     Is(usize),
     TextTooShort,

@@ -13,7 +13,7 @@ use program::BinaryInstruction;
 use vm_operands::OlaOperand;
 
 // Whether refusals 10 to 12 and 25 let a source pass.
-#[derive(Drop)]
+#[derive(Clone, Copy)]
 pub enum Resolution {
     Passed,
     Refused(AssembleRefusal),

@@ -7,13 +7,13 @@ use encoder::Assembly;
 
 // The words of all accepted builds since it was opened, 2^64 - 1 where there were more.
 #[repr(C)]
-#[derive(Drop)]
+#[derive(Clone, Copy)]
 pub struct Meter {
     pub total: u64,
 }
 
 // What a build on a meter answers: what assembling answers, and the meter after it.
-#[derive(Drop)]
+#[derive(Clone, Copy)]
 pub struct Metered {
     pub assembly: Assembly,
     pub meter: Meter,

@@ -22,7 +22,7 @@ use relocate::RoomFound;
 use source::{SourceRefusal, SourceWritten};
 
 #[repr(C)]
-#[derive(Drop)]
+#[derive(Clone, Copy)]
 pub struct OlaAssembly {
     pub refusal: u64,
     pub detail: u64,
@@ -33,14 +33,14 @@ pub struct OlaAssembly {
 }
 
 #[repr(C)]
-#[derive(Drop)]
+#[derive(Clone, Copy)]
 pub struct OlaMetered {
     pub assembly: OlaAssembly,
     pub meter: Meter,
 }
 
 #[repr(C)]
-#[derive(Drop)]
+#[derive(Clone, Copy)]
 pub struct OlaRoom {
     pub refusal: u64,
     pub detail: u64,
@@ -51,7 +51,7 @@ pub struct OlaRoom {
 }
 
 #[repr(C)]
-#[derive(Drop)]
+#[derive(Clone, Copy)]
 pub struct OlaWritten {
     pub refusal: u64,
     pub detail: u64,
@@ -59,7 +59,7 @@ pub struct OlaWritten {
 }
 
 #[repr(C)]
-#[derive(Drop)]
+#[derive(Clone, Copy)]
 pub struct OlaEncoding {
     pub refusal: u64,
     pub detail: u64,
@@ -69,7 +69,7 @@ pub struct OlaEncoding {
 }
 
 #[repr(C)]
-#[derive(Drop)]
+#[derive(Clone, Copy)]
 pub struct OlaName {
     pub start: usize,
     pub length: usize,

@@ -11,7 +11,7 @@ use vm_operands::{ImmediateValue, OlaOperand};
 
 // The contents of a place.
 #[repr(C)]
-#[derive(Drop)]
+#[derive(Clone, Copy)]
 pub struct OlaPlace {
     pub content: u8,
     pub reg: u8,
@@ -19,7 +19,7 @@ pub struct OlaPlace {
 }
 
 #[repr(C)]
-#[derive(Drop)]
+#[derive(Clone, Copy)]
 pub struct OlaInstruction {
     pub opcode: u8,
     pub op0: OlaPlace,
@@ -28,14 +28,14 @@ pub struct OlaInstruction {
 }
 
 // The contents of a place, or that its numbers name none.
-#[derive(Drop)]
+#[derive(Clone, Copy)]
 pub enum PlaceNamed {
     Is(OlaOperand),
     Nothing,
 }
 
 // An instruction, or that its numbers name none.
-#[derive(Drop)]
+#[derive(Clone, Copy)]
 pub enum InstructionNamed {
     Is(BinaryInstruction),
     Nothing,

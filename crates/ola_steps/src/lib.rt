@@ -9,7 +9,7 @@ use decoder::{Found, NextRefusal, OpenRefusal, Opening};
 use ola_places::{OlaInstruction, OlaPlace};
 
 #[repr(C)]
-#[derive(Drop)]
+#[derive(Clone, Copy)]
 pub struct OlaOpened {
     pub refusal: u64,
     pub detail: u64,
@@ -17,7 +17,7 @@ pub struct OlaOpened {
 
 // The line is the line reached; of a step by offsets, the offset.
 #[repr(C)]
-#[derive(Drop)]
+#[derive(Clone, Copy)]
 pub struct OlaStep {
     pub refusal: u64,
     pub detail: u64,

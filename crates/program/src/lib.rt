@@ -7,7 +7,7 @@ use vm_opcodes::OlaOpcode;
 use vm_operands::OlaOperand;
 
 // An instruction: its operation and the contents of its three places.
-#[derive(Drop)]
+#[derive(Clone, Copy)]
 pub struct BinaryInstruction {
     pub opcode: OlaOpcode,
     pub op0: OlaOperand,
@@ -16,21 +16,21 @@ pub struct BinaryInstruction {
 }
 
 // The second word of an instruction, or that it has none.
-#[derive(Drop)]
+#[derive(Clone, Copy)]
 pub enum SecondWord {
     Number(u64),
     Nothing,
 }
 
 // The words of one instruction.
-#[derive(Drop)]
+#[derive(Clone, Copy)]
 pub struct InstructionWords {
     pub first: u64,
     pub second: SecondWord,
 }
 
 // Why an instruction is not encoded.
-#[derive(Drop)]
+#[derive(Clone, Copy)]
 pub enum EncodeRefusal {
     // 21: a number of p or more.
     NumberTooLarge,
@@ -39,14 +39,14 @@ pub enum EncodeRefusal {
 }
 
 // Why bytecode is not written.
-#[derive(Drop)]
+#[derive(Clone, Copy)]
 pub enum WriteRefusal {
     // 23: the lent text is too short.
     TextTooShort,
 }
 
 // Why a listing row is not written.
-#[derive(Drop)]
+#[derive(Clone, Copy)]
 pub enum RowRefusal {
     // 21: a number of p or more.
     NumberTooLarge,

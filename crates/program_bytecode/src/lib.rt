@@ -11,7 +11,7 @@ use program::{BinaryInstruction, WriteRefusal};
 use text_write::Put;
 
 // How many bytes were written, or why none.
-#[derive(Drop)]
+#[derive(Clone, Copy)]
 pub enum Written {
     Is(usize),
     Refused(WriteRefusal),

@@ -10,7 +10,7 @@ use vm_opcodes::OlaOpcode;
 use vm_operands::OlaOperand;
 
 // The words of an instruction, or why there are none.
-#[derive(Drop)]
+#[derive(Clone, Copy)]
 pub enum Encoding {
     Is(InstructionWords),
     Refused(EncodeRefusal),

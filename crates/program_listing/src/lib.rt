@@ -16,7 +16,7 @@ use vm_opcodes::{OlaOpcode, RowPlaces};
 use vm_operands::{ImmediateValue, OlaOperand};
 
 // How many bytes were written, or why none.
-#[derive(Drop)]
+#[derive(Clone, Copy)]
 pub enum RowWritten {
     Is(usize),
     Refused(RowRefusal),

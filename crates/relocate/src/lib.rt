@@ -6,13 +6,13 @@ use asm::RowCount;
 
 // A count of words, the source's counter: an address. It is never added to a row count.
 #[repr(C)]
-#[derive(Drop)]
+#[derive(Clone, Copy)]
 pub struct WordAddress(pub u64);
 
 // An entry of the lent label table: kind 0 call, 1 `.LBL`, 2 prophet; the name's start and length in the source without its colon;
 // the address that the row marks (a prophet label's host), 0 where it is unmapped.
 #[repr(C)]
-#[derive(Drop)]
+#[derive(Clone, Copy)]
 pub struct LabelEntry {
     pub kind: u8,
     pub mapped: bool,
@@ -22,7 +22,7 @@ pub struct LabelEntry {
 }
 
 // Why a source or a prophet list is refused before its instructions are looked at.
-#[derive(Drop)]
+#[derive(Clone, Copy)]
 pub enum RelocateRefusal {
     // 1: source above 65,536 bytes.
     SourceTooLong,
@@ -45,7 +45,7 @@ pub enum RelocateRefusal {
 }
 
 // What a source that passes refusals 1 to 6 adds up to, and the stretch of it that is main's scope, from start to end.
-#[derive(Drop)]
+#[derive(Clone, Copy)]
 pub struct Layout {
     pub labels: usize,
     pub instructions: usize,
@@ -56,14 +56,14 @@ pub struct Layout {
 }
 
 // Whether a source passes refusals 1 to 6, or, for a label table of so many entries, 1 to 7.
-#[derive(Drop)]
+#[derive(Clone, Copy)]
 pub enum Measured {
     Is(Layout),
     Refused(RelocateRefusal),
 }
 
 // What a source takes: its label rows, instructions, counted length and words.
-#[derive(Drop)]
+#[derive(Clone, Copy)]
 pub struct RoomFigures {
     pub labels: usize,
     pub instructions: usize,
@@ -72,21 +72,21 @@ pub struct RoomFigures {
 }
 
 // What a source takes, where it passes refusals 1 to 6.
-#[derive(Drop)]
+#[derive(Clone, Copy)]
 pub enum RoomFound {
     Is(RoomFigures),
     Refused(RelocateRefusal),
 }
 
 // The address of the row that holds a name, or none.
-#[derive(Drop)]
+#[derive(Clone, Copy)]
 pub enum AddressFound {
     At(WordAddress),
     Nothing,
 }
 
 // How many prophets a list names, where refusals 8 and 9 do not turn it away.
-#[derive(Drop)]
+#[derive(Clone, Copy)]
 pub enum ProphetsListed {
     Is(usize),
     Refused(RelocateRefusal),

@@ -10,21 +10,21 @@ use relocate::{LabelEntry, Layout, Measured, WordAddress};
 use relocate_rows::{Advanced, EntryFound, Progress};
 
 // How far a walk has come, and the place of the sorted source at which it goes on.
-#[derive(Drop)]
+#[derive(Clone, Copy)]
 pub struct Walk {
     pub progress: Progress,
     pub at: usize,
 }
 
 // The entry of the next label row, and how far the walk has come with it.
-#[derive(Drop)]
+#[derive(Clone, Copy)]
 pub struct LabelStep {
     pub entry: LabelEntry,
     pub walk: Walk,
 }
 
 // What refusals 1 to 7 say of a source, its layout, and how many entries are to be filled: none on a refusal.
-#[derive(Drop)]
+#[derive(Clone, Copy)]
 pub struct Filling {
     pub measured: Measured,
     pub layout: Layout,

@@ -12,7 +12,7 @@ const LARGEST_SEEN: usize = 9223372036854775807;
 const LARGEST_ADDRESS: u64 = 9223372036854775807;
 
 // How far the walk has come: the instructions met, the counted length so far, and the address of the last instruction.
-#[derive(Drop)]
+#[derive(Clone, Copy)]
 pub struct Progress {
     pub seen: usize,
     pub address: u64,
@@ -20,7 +20,7 @@ pub struct Progress {
 }
 
 // How far the walk has come after a row.
-#[derive(Drop)]
+#[derive(Clone, Copy)]
 pub enum Advanced {
     Is(Progress),
     // A count was above 2^63 - 1 before it, more than the rows of any source come to.
@@ -28,7 +28,7 @@ pub enum Advanced {
 }
 
 // The entry of a label row, or that a line has none.
-#[derive(Drop)]
+#[derive(Clone, Copy)]
 pub enum EntryFound {
     Is(LabelEntry),
     Nothing,

@@ -8,7 +8,7 @@ use asm::RowAt;
 
 // The stretch that a place of the sorted source lies in: where it stops in the source, the place there, and what to add to and take from a place
 // of the source to have one of the sorted source.
-#[derive(Drop)]
+#[derive(Clone, Copy)]
 pub struct Stretch {
     stop: usize,
     place: usize,

@@ -8,7 +8,7 @@ use replay_lines::fields::{
 use replay_lines::programs::put_program;
 
 // What assembling answered and wrote. The table's entries past those lent are zeros and not mapped.
-#[derive(Drop)]
+#[derive(Clone, Copy)]
 struct Assembled {
     found: OlaAssembly,
     kinds: [u8; 512],

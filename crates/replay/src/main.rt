@@ -15,7 +15,7 @@ const DIFFERS: u64 = 99;
 
 const CASES: u64 = 98;
 
-#[derive(Drop)]
+#[derive(Clone, Copy)]
 struct Tally {
     counts: [u64; 100],
 }

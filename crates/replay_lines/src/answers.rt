@@ -6,7 +6,7 @@ use text::ByteClass;
 use text_write::Put;
 
 // An answer: its refusal, 0 where it is accepted, its bytes and how many they are, FAULT where they do not fit.
-#[derive(Drop)]
+#[derive(Clone, Copy)]
 pub struct Answer {
     pub refusal: u64,
     pub bytes: [u8; 4096],

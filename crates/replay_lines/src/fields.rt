@@ -15,7 +15,7 @@ pub const SPACE: u8 = b' ';
 pub const EQUALS: u8 = b'=';
 
 // A byte of a text, how many times it stands there, and where the next one begins, 0 where this one cannot be read.
-#[derive(Drop)]
+#[derive(Clone, Copy)]
 struct Step {
     byte: u8,
     times: usize,

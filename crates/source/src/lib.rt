@@ -2,7 +2,7 @@
 use decoder::OpenRefusal;
 
 // Why a bytecode's source is not written.
-#[derive(Drop)]
+#[derive(Clone, Copy)]
 pub enum SourceRefusal {
     // 14 to 19.
     Open(OpenRefusal),
@@ -13,7 +13,7 @@ pub enum SourceRefusal {
 }
 
 // How many bytes were written, or why none.
-#[derive(Drop)]
+#[derive(Clone, Copy)]
 pub enum SourceWritten {
     Is(usize),
     Refused(SourceRefusal),

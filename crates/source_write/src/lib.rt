@@ -17,7 +17,7 @@ use text_write::Put;
 const MAIN: [u8; 5] = *b"main:";
 
 // The index of an instruction that is off its row, or none.
-#[derive(Drop)]
+#[derive(Clone, Copy)]
 pub enum OffFound {
     At(usize),
     Nothing,

@@ -6,7 +6,7 @@ ghost use Rattle.text.specs.Scan.{scan};
 ghost use Rattle.text.specs.Classes.{holds};
 
 // A class of bytes.
-#[derive(Drop)]
+#[derive(Clone, Copy)]
 pub enum ByteClass {
     // Byte 32 and bytes 9 to 13.
     Space,
@@ -126,14 +126,14 @@ pub fn same_bytes(a: &[u8], b: &[u8]) -> bool
 }
 
 // The first line of a text: its length without its ending, and where the next line starts.
-#[derive(Drop)]
+#[derive(Clone, Copy)]
 pub struct Line {
     pub length: usize,
     pub next: usize,
 }
 
 // The first piece of a row: where it starts, and its length, 0 where the row has no piece.
-#[derive(Drop)]
+#[derive(Clone, Copy)]
 pub struct Piece {
     pub start: usize,
     pub length: usize,

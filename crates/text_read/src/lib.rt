@@ -4,7 +4,7 @@ ghost use Rattle.std.specs.Prelude.{◌≡◌, ◌+◌, ◌≤◌, length, drop}
 ghost use Rattle.text_read.specs.Numerals.{digit_value, unprefixed, numeral, hexadecimal, decimal};
 
 // What a text says: a number, or none.
-#[derive(Drop)]
+#[derive(Clone, Copy)]
 pub enum Numeral {
     Value(u64),
     Nothing,

@@ -4,7 +4,7 @@ ghost use Rattle.std.specs.Prelude.{◌≡◌};
 ghost use Rattle.text_write.specs.Put.{put_count, put_into};
 
 // How many bytes were written, or that the text is too short.
-#[derive(Drop)]
+#[derive(Clone, Copy)]
 pub enum Put {
     Count(usize),
     Short,

@@ -3,7 +3,7 @@ ghost use Rattle.std.specs.Prelude.{◌≡◌};
 ghost use Rattle.vm_hardware.specs.Registers.{place_index, register_index, register_bit, register_mask, register_in};
 
 // The ten registers, in the order of the Rust.
-#[derive(Drop)]
+#[derive(Clone, Copy)]
 pub enum OlaRegister {
     R0,
     R1,
@@ -17,14 +17,14 @@ pub enum OlaRegister {
     R9,
 }
 
-#[derive(Drop)]
+#[derive(Clone, Copy)]
 pub enum OlaSpecialRegister {
     PC,
     PSP,
 }
 
 // The three places of an instruction: 0 op0, 1 op1, 2 dst.
-#[derive(Drop)]
+#[derive(Clone, Copy)]
 pub enum Place {
     Op0,
     Op1,
@@ -32,14 +32,14 @@ pub enum Place {
 }
 
 // A register, or none.
-#[derive(Drop)]
+#[derive(Clone, Copy)]
 pub enum RegisterFound {
     Is(OlaRegister),
     Nothing,
 }
 
 // A special register, or none.
-#[derive(Drop)]
+#[derive(Clone, Copy)]
 pub enum SpecialFound {
     Is(OlaSpecialRegister),
     Nothing,

@@ -3,7 +3,7 @@ ghost use Rattle.std.specs.Prelude.{◌≡◌};
 ghost use Rattle.vm_opcodes.specs.Operations.{index_of};
 
 // The operations, in the order of the Rust.
-#[derive(Drop)]
+#[derive(Clone, Copy)]
 pub enum OlaOpcode {
     ADD,
     MUL,
@@ -35,7 +35,7 @@ pub enum OlaOpcode {
 }
 
 // The places that a row has after its mnemonic, in the row's order. Memory is op0 and op1 together, written `[op0+op1]` in a listing.
-#[derive(Drop)]
+#[derive(Clone, Copy)]
 pub enum RowPlaces {
     DstOp0Op1,
     DstOp1,
@@ -47,7 +47,7 @@ pub enum RowPlaces {
 }
 
 // An operation, or none.
-#[derive(Drop)]
+#[derive(Clone, Copy)]
 pub enum OpcodeFound {
     Is(OlaOpcode),
     Nothing,

@@ -9,20 +9,20 @@ use text_write::Put;
 use vm_hardware::{OlaRegister, OlaSpecialRegister};
 
 // A number of the field. Its number may be ORDER or more where a caller makes one, which encoding refuses.
-#[derive(Drop)]
+#[derive(Clone, Copy)]
 pub struct ImmediateValue {
     pub number: u64,
 }
 
 // A number, or none.
-#[derive(Drop)]
+#[derive(Clone, Copy)]
 pub enum ImmediateFound {
     Is(ImmediateValue),
     Nothing,
 }
 
 // What a place of an instruction holds: nothing, or one of five contents.
-#[derive(Drop)]
+#[derive(Clone, Copy)]
 pub enum OlaOperand {
     Empty,
     ImmediateOperand {
