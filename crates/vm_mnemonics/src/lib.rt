@@ -1,6 +1,7 @@
 // The mnemonics of the operations as fixed byte strings, compared with a piece: `from_str` of core/src/vm/opcodes.rs. They are written by
 // crate vm_tokens.
 // The length of the piece decides which mnemonics it is compared with.
+#![tactic(auto)]
 ghost use Rattle.std.specs.Prelude.{◌≡◌, length};
 ghost use Rattle.text.specs.Bytes.{same};
 ghost use Rattle.vm_mnemonics.specs.Mnemonics.{mnemonic, operation_of};

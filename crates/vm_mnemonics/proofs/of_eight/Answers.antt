@@ -1,0 +1,18 @@
+-- `of_eight` meets its contract: a comparison that holds tells the operation, and where none holds the piece is no spelling of eight bytes.
+use mathlib.Core.Path.{refl, sym, ◌∙◌}
+use Rattle.vm_opcodes.specs.Operations.{operations}
+use Rattle.vm_opcodes.specs.declared.OlaOpcode.TheVariants.{POSEIDON, SIGCHECK}
+use Rattle.vm_mnemonics.proofs.Laws.{spelled, unspelled, of_length, Refused}
+use Rattle.vm_mnemonics.proofs.of_eight.Goals as goal
+
+pub returns-then-same_bytes : goal.returns-then-same_bytes
+returns-then-same_bytes c = spelled c.args.piece.now POSEIDON c.same_bytes.result c.same_bytes.ensures c.if-same_bytes.true
+
+pub returns-then-same_bytes-2 : goal.returns-then-same_bytes-2
+returns-then-same_bytes-2 c = spelled c.args.piece.now SIGCHECK c.same_bytes-2.result c.same_bytes-2.ensures c.if-same_bytes-2.true
+
+pub returns : goal.returns
+unfolding operations of_length Refused
+returns c = unspelled c.args.piece.now 8 c.requires
+    (sym c.same_bytes.ensures ∙ c.if-same_bytes.false)
+    (sym c.same_bytes-2.ensures ∙ c.if-same_bytes-2.false)
