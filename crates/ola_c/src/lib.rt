@@ -1,4 +1,4 @@
-// The C interface: include/ola.h declares these functions. Nothing but conversions.
+// The C interface: include/ola.h declares these functions, and ola_c_c exports them. Nothing but conversions.
 ghost use Rattle.std.specs.Prelude.{◌≡◌, length};
 ghost use Rattle.asm.specs.Parts.{name_part};
 ghost use Rattle.relocate.specs.Relocate.{tabled};
@@ -29,8 +29,7 @@ pub const OLA_VERSION: u64 = 7;
 
 // The version of the library, which a caller compares with its header's.
 // Promises: none; its contract is its whole outcome.
-#[unsafe(no_mangle)]
-pub extern "C" fn ola_version() -> u64
+pub fn ola_version() -> u64
     ensures { result ≡ version }
 {
     OLA_VERSION
@@ -38,19 +37,17 @@ pub extern "C" fn ola_version() -> u64
 
 // How much a source takes, without building it.
 // Promises: room_is_built, counted_is_words, room_refused, room_suffices, room_never_short.
-#[unsafe(no_mangle)]
-pub extern "C" fn ola_room_of(source: &[u8]) -> OlaRoom
+pub fn ola_room_of(source: &[u8]) -> OlaRoom
     ensures { result ≡ figures_out (room_of source.now) }
 {
     ola_answers::room_out(relocate_measure::room_of(source))
 }
 
 // Assembles a source with a prophet list over parallel arrays.
-// Promises: counts_answered, words-left, columns_left_lem, same_words, same_bytecode, one_program, words_ahead, accepted_has_rows, lengths_are_one,
-// addresses_are_positions, instructions_stand, names_are_word_counts, table_is_positions, later_kept, kept_counted, rows_by_lines_lem, same-lines, room_is_built,
+// Promises: counts_answered, words_left_lem, columns_left_lem, same_words, same_bytecode, one_program, words_ahead, accepted_has_rows, lengths_are_one,
+// addresses_are_positions, instructions_stand, names_are_word_counts, table_is_positions, later_kept, kept_counted, rows_by_lines_lem, same_lines, room_is_built,
 // room_refused, room_suffices, room_never_short, source_assembles, source_words_fit, source_reads_again, no_row_reads_so, source_same_words.
-#[unsafe(no_mangle)]
-pub extern "C" fn ola_assemble_parts(
+pub fn ola_assemble_parts(
     source: &[u8],
     prophets: &[u8],
     kinds: &mut [u8],
@@ -77,11 +74,10 @@ pub extern "C" fn ola_assemble_parts(
 }
 
 // Assembles a source with a prophet list over a table of entries.
-// Promises: counts_answered, words-left, table_left_lem, same_words, same_bytecode, one_program, words_ahead, accepted_has_rows, lengths_are_one,
-// addresses_are_positions, instructions_stand, names_are_word_counts, table_is_positions, later_kept, kept_counted, rows_by_lines_lem, same-lines, room_is_built,
+// Promises: counts_answered, words_left_lem, table_left_lem, same_words, same_bytecode, one_program, words_ahead, accepted_has_rows, lengths_are_one,
+// addresses_are_positions, instructions_stand, names_are_word_counts, table_is_positions, later_kept, kept_counted, rows_by_lines_lem, same_lines, room_is_built,
 // room_refused, room_suffices, room_never_short, source_assembles, source_words_fit, source_reads_again, no_row_reads_so, source_same_words.
-#[unsafe(no_mangle)]
-pub extern "C" fn ola_assemble(
+pub fn ola_assemble(
     source: &[u8],
     prophets: &[u8],
     table: &mut [LabelEntry],
@@ -99,8 +95,7 @@ pub extern "C" fn ola_assemble(
 
 // A meter at its start.
 // Promises: meter_counts.
-#[unsafe(no_mangle)]
-pub extern "C" fn ola_meter_open() -> Meter
+pub fn ola_meter_open() -> Meter
     ensures { result ≡ at_start }
 {
     Meter::open()
@@ -108,8 +103,7 @@ pub extern "C" fn ola_meter_open() -> Meter
 
 // Assembles a source with a prophet list over parallel arrays, on a meter.
 // Promises: meter_counts, meter_from, meter_kept, and those of ola_assemble_parts: its answer, and what is left, are the same.
-#[unsafe(no_mangle)]
-pub extern "C" fn ola_meter_build(
+pub fn ola_meter_build(
     meter: Meter,
     source: &[u8],
     prophets: &[u8],
@@ -132,8 +126,7 @@ pub extern "C" fn ola_meter_build(
 
 // The part of a source that an entry's name is.
 // Promises: none; its contract is its whole outcome.
-#[unsafe(no_mangle)]
-pub extern "C" fn ola_label_name(source: &[u8], entry: LabelEntry) -> OlaName
+pub fn ola_label_name(source: &[u8], entry: LabelEntry) -> OlaName
     ensures { result ≡ name_of (name_part source.now entry.start entry.length) }
 {
     ola_answers::name_out(source, entry.start, entry.length)
@@ -141,8 +134,7 @@ pub extern "C" fn ola_label_name(source: &[u8], entry: LabelEntry) -> OlaName
 
 // Writes the bytecode text of words.
 // Promises: bytecode_left, same_bytecode, source_reads_again.
-#[unsafe(no_mangle)]
-pub extern "C" fn ola_write_bytecode(words: &[u64], text: &mut [u8]) -> OlaWritten
+pub fn ola_write_bytecode(words: &[u64], text: &mut [u8]) -> OlaWritten
     ensures value { result ≡ written_of (count_of (bytecode_written words.now (length text.old))) }
     ensures text_after { text.new ≡ text_left (bytecode_written words.now (length text.old)) text.old }
 {
@@ -151,10 +143,9 @@ pub extern "C" fn ola_write_bytecode(words: &[u64], text: &mut [u8]) -> OlaWritt
 }
 
 // Writes a source of a bytecode's instructions.
-// Promises: source_left, source_refused, first_off_row_lem, source_written_lem, source-fits, source_assembles, source_words_fit, source_reads_again,
+// Promises: source_left, source_refused, first_off_row_lem, source_written_lem, source_fits, source_assembles, source_words_fit, source_reads_again,
 // source_of_accepted.
-#[unsafe(no_mangle)]
-pub extern "C" fn ola_write_source(bytecode: &[u8], text: &mut [u8]) -> OlaWritten
+pub fn ola_write_source(bytecode: &[u8], text: &mut [u8]) -> OlaWritten
     ensures value { result ≡ written_of (count_of (source_written bytecode.now (length text.old))) }
     ensures text_after { text.new ≡ text_left (source_written bytecode.now (length text.old)) text.old }
 {
@@ -164,8 +155,7 @@ pub extern "C" fn ola_write_source(bytecode: &[u8], text: &mut [u8]) -> OlaWritt
 
 // Whether a text opens as bytecode.
 // Promises: bytecode_opens, opened_run, opened_form, source_reads_again.
-#[unsafe(no_mangle)]
-pub extern "C" fn ola_open(text: &[u8]) -> OlaOpened
+pub fn ola_open(text: &[u8]) -> OlaOpened
     ensures { result ≡ opened_of (accepted_of (opened text.now)) }
 {
     ola_steps::opened_out(decoder_open::open_text(text))
@@ -173,8 +163,7 @@ pub extern "C" fn ola_open(text: &[u8]) -> OlaOpened
 
 // The instruction from a line on, and the line reached.
 // Promises: run_reads, opened_run, opened_form, run_by_offsets.
-#[unsafe(no_mangle)]
-pub extern "C" fn ola_next(text: &[u8], line: usize) -> OlaStep
+pub fn ola_next(text: &[u8], line: usize) -> OlaStep
     ensures { result ≡ line_step (stepped text.now line) }
 {
     let step = decoder_runs::next_line(text, line);
@@ -184,8 +173,7 @@ pub extern "C" fn ola_next(text: &[u8], line: usize) -> OlaStep
 
 // The instruction from an offset on, and the offset reached.
 // Promises: run_by_offsets, opened_run, opened_form.
-#[unsafe(no_mangle)]
-pub extern "C" fn ola_next_at(text: &[u8], offset: usize) -> OlaStep
+pub fn ola_next_at(text: &[u8], offset: usize) -> OlaStep
     ensures { result ≡ offset_step (stepped_at text.now offset) }
 {
     let step = decoder_next::next_at(text, offset);
@@ -195,8 +183,7 @@ pub extern "C" fn ola_next_at(text: &[u8], offset: usize) -> OlaStep
 
 // The words of one instruction.
 // Promises: none; its contract is its whole outcome.
-#[unsafe(no_mangle)]
-pub extern "C" fn ola_encode(instruction: OlaInstruction) -> OlaEncoding
+pub fn ola_encode(instruction: OlaInstruction) -> OlaEncoding
     ensures { result ≡ encoding_named (instruction_in instruction) }
 {
     match ola_places::instruction_in(instruction) {
@@ -213,8 +200,7 @@ pub extern "C" fn ola_encode(instruction: OlaInstruction) -> OlaEncoding
 
 // Writes the listing row of one instruction.
 // Promises: none; its contract is its whole outcome.
-#[unsafe(no_mangle)]
-pub extern "C" fn ola_listing_row(instruction: OlaInstruction, text: &mut [u8]) -> OlaWritten
+pub fn ola_listing_row(instruction: OlaInstruction, text: &mut [u8]) -> OlaWritten
     ensures value { result ≡ listed (instruction_in instruction) (length text.old) }
     ensures text_after { text.new ≡ listed_text (instruction_in instruction) text.old }
 {
