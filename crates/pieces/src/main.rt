@@ -1,4 +1,5 @@
 // Prints each piece of the rows on standard input with what it reads as: an operation, a register, a number, or another piece. Numbers are decimal ones, by vm_operands: a source's hexadecimal ones are read by asm_shapes, which it does not reach.
+#![tactic(auto)]
 use libc::{STDIN_FILENO, STDOUT_FILENO};
 use text_write::Put;
 use vm_hardware::RegisterFound;

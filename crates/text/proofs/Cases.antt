@@ -1,12 +1,12 @@
 -- Inputs that separate likely misreadings of this crate's definitions, by computation. Expected values: document 01 and READINGS 11 and 13,
 -- Rust's documentation of `lines` and `split_whitespace`.
-use Prim.Native.Nat.{ℕ, zero, suc}
+use Prim.Native.Nat.{ℕ, suc}
 use mathlib.Core.Path.{◌≡◌, refl}
 use mathlib.Core.List.{List, [], ◌∷◌}
 use mathlib.Core.Bool.{Bool, true, false, not, ◌&&◌, cond}
 use lib.Dec.{eqb}
 use Rattle.text.specs.Bytes.{bytes, same, is_space, is_digit, is_letter, is_word}
-use Rattle.text.specs.Scan.{scan, all, parts}
+use Rattle.text.specs.Scan.{scan, parts}
 use Rattle.text.specs.Lines.{lines, ended, line_length, line_next}
 use Rattle.text.specs.Pieces.{pieces, filled, piece_start, piece_length}
 

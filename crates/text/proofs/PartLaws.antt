@@ -9,7 +9,7 @@ use borrow.Author.Tests.{lt-ltb, le-ltb, ltb-true, ltb-false, not-false}
 use lib.Dec.{ltb}
 use lib.ListN.{length, get_or, take, drop, drop_of_length-le, length-drop}
 use lib.Seq.{drop-cons, take_all, take-take, length-take-le, drop-drop}
-use Rattle.text.specs.Scan.{scan, parts, on_first, is_empty}
+use Rattle.text.specs.Scan.{scan, parts, on_first}
 use Rattle.text.specs.Bytes.{is_space}
 use Rattle.text.specs.Lines.{is_feed, not_feed, ends_in_return, without_return, ended, lines, line_length, line_next}
 use Rattle.text.specs.Pieces.{filled, pieces, not_space, piece_start, piece_length}

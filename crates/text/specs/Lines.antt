@@ -1,5 +1,5 @@
 -- Lines as Rust's `lines` gives them.
-use Rattle.std.specs.Prelude.{ℕ, ◌+◌, ◌-◌, List, [], ◌∷◌, Bool, not, ◌&&◌, cond, eqb, ltb, length, take, get_or}
+use Rattle.std.specs.Prelude.{ℕ, ◌+◌, ◌-◌, List, [], ◌∷◌, Bool, not, cond, eqb, ltb, length, take, get_or}
 use Rattle.text.specs.Scan.{scan, parts, is_empty}
 use Rattle.text.specs.declared.Line.{Line}
 

@@ -1,6 +1,7 @@
 // Bytes by class, the one scan over them, and comparing: what String and Regex did in the Rust. Every function takes a part of a text and
 // requires nothing of it. What the first line and the first piece of a text are is defined here, and found by crate text_lines.
 #![tactic(auto)]
+
 ghost use Rattle.std.specs.Prelude.{◌≡◌};
 ghost use Rattle.text.specs.Bytes.{is_space, is_digit, is_letter, is_word, same};
 ghost use Rattle.text.specs.Scan.{scan};

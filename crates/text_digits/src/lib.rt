@@ -1,6 +1,7 @@
 // Numbers written into lent text in digits: `0x` and the fewest or sixteen hexadecimal digits, and decimal.
 // A public writer writes at byte `at` where all fits, and says how many bytes; otherwise it leaves the text as it is.
 #![tactic(auto)]
+
 ghost use Rattle.std.specs.Prelude.{◌≡◌, ◌+◌, ◌≤◌, ◌<◌, length};
 ghost use Rattle.std.proofs.lemmas.List.Edits.{sets};
 ghost use Rattle.text_write.specs.Digits.{digit_byte, digit_count, digits_of, prefixed_text, fewest_text, sixteen_text, decimal_text};

@@ -1,23 +1,21 @@
 -- Laws of the first line and the first piece, one for each way out of the functions that find them.
 use Prim.Native.Nat.{ℕ, ◌+◌, ◌-◌, ◌^◌, ◌<◌, ◌≤◌}
-use mathlib.Core.Path.{◌≡◌, refl, sym, ap, ◌∙◌}
+use mathlib.Core.Path.{◌≡◌, sym, ap, ◌∙◌}
 use mathlib.Core.List.{List}
-use mathlib.Core.Bool.{Bool, true, false, cond, not}
+use mathlib.Core.Bool.{true, false}
 use native.Mathlib.Omega.{arith}
 use borrow.Author.Rules.{rules}
-use borrow.Author.Tests.{lt-ltb, le-ltb, eq-eqb, ne_eqb}
+use borrow.Author.Tests.{ne_eqb}
 use mir.Val.{Fits}
 use mir.Syntax.{w64}
 use lib.ListN.{length, get_or, take, drop}
-use lib.Seq.{length-take-le, get_or-take, take-take}
+use lib.Seq.{length-take-le, get_or-take}
 use Rattle.text.specs.Bytes.{is_space}
 use Rattle.text.specs.Scan.{scan}
 use Rattle.text.specs.Classes.{holds}
 use Rattle.text.specs.Lines.{not_feed, ends_in_return, without_return, line_length, line_next, first_line}
 use Rattle.text.specs.Pieces.{not_space, piece_start, piece_length, first_piece}
 use Rattle.text.specs.declared.ByteClass.TheVariants.{Space, NotSpace, IsNot}
-use Rattle.text.specs.declared.Line.{Line}
-use Rattle.text.specs.declared.Piece.{Piece}
 use Rattle.text.proofs.Laws.{scan_le, part_from, within_laws}
 use Rattle.text.proofs.PartLaws.{line_ended, line_last}
 

@@ -1,5 +1,6 @@
 // Lines and pieces of a text: `lines` and `split_whitespace` of the Rust. Every function takes a part of a text and requires nothing of it.
 #![tactic(auto)]
+
 ghost use Rattle.std.specs.Prelude.{◌≡◌};
 ghost use Rattle.text.specs.Lines.{first_line};
 ghost use Rattle.text.specs.Pieces.{first_piece};

@@ -1,6 +1,7 @@
 // Numbers read from digits, as Rust's `from_str_radix` and `trim_start_matches("0x")` read them, and as a source has them behind `0x`.
 // Every public function takes a part of a text, requires nothing of it, and takes the largest number that is accepted.
 #![tactic(auto)]
+
 ghost use Rattle.std.specs.Prelude.{◌≡◌, ◌+◌, ◌≤◌, length, drop};
 ghost use Rattle.text_read.specs.Numerals.{digit_value, unprefixed, numeral, hexadecimal, decimal};
 

@@ -1,6 +1,7 @@
 // Bytes written into lent text. Crate text_digits writes numbers the same way.
 // A public writer writes at byte `at` where all fits, and says how many bytes; otherwise it leaves the text as it is.
 #![tactic(auto)]
+
 ghost use Rattle.std.specs.Prelude.{◌≡◌};
 ghost use Rattle.text_write.specs.Put.{put_count, put_into};
 

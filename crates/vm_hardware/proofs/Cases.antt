@@ -1,7 +1,7 @@
 -- Registers in first words, and spellings, from the papers, against the definitions.
 use mathlib.Core.Path.{◌≡◌, refl}
 use mathlib.Core.List.{List, [], ◌∷◌, map}
-use Prim.Native.Nat.{ℕ, ◌+◌, ◌^◌}
+use Prim.Native.Nat.{ℕ, ◌^◌}
 use Rattle.text.specs.Bytes.{bytes, is_digit, same}
 use Rattle.vm_hardware.specs.Registers.{registers, register_bit, first_register, register_in, register_text, register_of, special_text, special_of}
 use Rattle.vm_hardware.specs.declared.OlaRegister.{OlaRegister}

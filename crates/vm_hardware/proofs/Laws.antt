@@ -24,7 +24,7 @@ use Rattle.vm_hardware.specs.declared.Place.{Place}
 use Rattle.vm_hardware.specs.declared.Place.TheVariants.{Op0, Op1, Dst}
 use Rattle.vm_hardware.specs.declared.RegisterFound.{RegisterFound}
 use Rattle.vm_hardware.specs.declared.RegisterFound.TheVariants.{Is as IsRegister, Nothing as NoRegister}
-use Rattle.vm_hardware.specs.declared.SpecialFound.TheVariants.{Is as IsSpecial, Nothing as NoSpecial}
+use Rattle.vm_hardware.specs.declared.SpecialFound.TheVariants.{Is as IsSpecial}
 use Rattle.vm_hardware.specs.contracts.OlaRegister.{enum}
 
 -- a register's index is below ten: one computed test over the registers, as in the next law

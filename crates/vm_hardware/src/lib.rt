@@ -1,5 +1,6 @@
 // Registers: core/src/vm/hardware.rs, registers only.
 #![tactic(auto)]
+
 ghost use Rattle.std.specs.Prelude.{◌≡◌};
 ghost use Rattle.vm_hardware.specs.Registers.{place_index, register_index, register_bit, register_mask, register_in};
 

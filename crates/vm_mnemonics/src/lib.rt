@@ -2,6 +2,7 @@
 // crate vm_tokens.
 // The length of the piece decides which mnemonics it is compared with.
 #![tactic(auto)]
+
 ghost use Rattle.std.specs.Prelude.{◌≡◌, length};
 ghost use Rattle.text.specs.Bytes.{same};
 ghost use Rattle.vm_mnemonics.specs.Mnemonics.{mnemonic, operation_of};

@@ -1,5 +1,6 @@
 // OlaOpcode and its order: core/src/vm/opcodes.rs. Its tables by that order are in crate vm_tables.
 #![tactic(auto)]
+
 ghost use Rattle.std.specs.Prelude.{◌≡◌};
 ghost use Rattle.vm_opcodes.specs.Operations.{index_of};
 

@@ -1,5 +1,6 @@
 // The constant tables by operation: the shifts of core/src/vm/opcodes.rs, and the places of each operation's row.
 #![tactic(auto)]
+
 ghost use Rattle.std.specs.Prelude.{◌≡◌, ◌-◌, ◌<◌};
 ghost use Rattle.vm_opcodes.specs.Operations.{operation_bit, operation_mask, row_places, operation_in};
 

@@ -1,6 +1,5 @@
 -- `text::is_word` meets its contract.
 use Rattle.text.proofs.ClassLaws.{word_laws}
-use borrow.Author.Rules.{rules}
 use Rattle.text.proofs.is_word.Goals as goal
 
 pub returns-then-is_letter : goal.returns-then-is_letter

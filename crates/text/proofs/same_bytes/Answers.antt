@@ -1,8 +1,4 @@
 -- `text::same_bytes` meets its contract.
-use Prim.Native.Nat.{◌-◌, ◌≤◌}
-use mathlib.Core.Path.{◌≡◌}
-use lib.ListN.{length, drop}
-use Rattle.text.specs.Bytes.{same}
 use Rattle.text.proofs.SameLaws.{same_laws}
 use Rattle.text.proofs.same_bytes.Goals as goal
 

@@ -1,7 +1,4 @@
 -- count_digits: the digits counted and those still to count are one more than all, since both count the first of the rest.
-use Prim.Native.Nat.{◌+◌, ◌≤◌}
-use mathlib.Core.Path.{◌≡◌}
-use Rattle.text_write.specs.Digits.{digit_count}
 use Rattle.text_digits.proofs.Steps.{count_laws}
 use Rattle.text_digits.proofs.count_digits.Goals as goal
 

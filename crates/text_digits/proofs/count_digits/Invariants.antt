@@ -2,7 +2,6 @@
 use Prim.Native.Nat.{◌+◌, ◌≤◌}
 use mathlib.Core.Path.{◌≡◌}
 use Rattle.text_write.specs.Digits.{digit_count}
-use Rattle.text_digits.proofs.Steps.{count_laws}
 use Rattle.text_digits.proofs.count_digits.Given as goal
 
 abbrev pub invariant-loop-left : goal.invariant-loop-left

@@ -1,9 +1,4 @@
 -- put_digits: storing the digits of what is left of the number comes to storing all of them.
-use Prim.Native.Nat.{◌≤◌}
-use mathlib.Core.Path.{◌≡◌}
-use lib.ListN.{length}
-use lib.Seq.{sets}
-use Rattle.text_write.specs.Digits.{digits_of}
 use Rattle.text_digits.proofs.Steps.{digits_laws}
 use Rattle.text_digits.proofs.put_digits.Goals as goal
 

@@ -4,7 +4,6 @@ use mathlib.Core.Path.{◌≡◌}
 use lib.ListN.{length}
 use lib.Seq.{sets}
 use Rattle.text_write.specs.Digits.{digits_of}
-use Rattle.text_digits.proofs.Steps.{digits_laws}
 use Rattle.text_digits.proofs.put_digits.Given as goal
 
 abbrev pub invariant-loop-i : goal.invariant-loop-i

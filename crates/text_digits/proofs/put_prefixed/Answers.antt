@@ -1,7 +1,4 @@
 -- put_prefixed: the two refusals, then `0`, `x` and the digits.
-use mathlib.Core.Path.{◌∙◌}
-use native.Mathlib.Omega.{arith}
-use lib.ListN.{length-set}
 use Rattle.text_digits.proofs.Steps.{prefixed_laws}
 use Rattle.text_digits.proofs.put_prefixed.Goals as goal
 

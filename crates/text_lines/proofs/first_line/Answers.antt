@@ -1,6 +1,5 @@
 -- `text_lines::first_line` meets its contract.
 use Rattle.text_lines.proofs.FirstLaws.{line_laws}
-use borrow.Author.Rules.{rules}
 use Rattle.text_lines.proofs.first_line.Goals as goal
 
 pub returns-then-n-text : goal.returns-then-n-text

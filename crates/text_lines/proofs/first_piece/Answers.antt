@@ -1,6 +1,5 @@
 -- `text_lines::first_piece` meets its contract.
 use Rattle.text_lines.proofs.FirstLaws.{piece_laws}
-use borrow.Author.Rules.{rules}
 use Rattle.text_lines.proofs.first_piece.Goals as goal
 
 pub slice_bounds-scan-count : goal.slice_bounds-scan-count

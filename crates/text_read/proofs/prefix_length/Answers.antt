@@ -1,8 +1,4 @@
 -- `prefix_length` answers how many bytes repeated `0x` takes: what is left of the text loses the same `0x` as the whole.
-use Prim.Native.Nat.{◌-◌, ◌≤◌}
-use mathlib.Core.Path.{◌≡◌}
-use lib.ListN.{length, drop}
-use Rattle.text_read.specs.Numerals.{unprefixed}
 use Rattle.text_read.proofs.Laws.{prefix_laws}
 use Rattle.text_read.proofs.prefix_length.Goals as goal
 

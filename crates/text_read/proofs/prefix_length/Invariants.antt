@@ -3,7 +3,6 @@ use Prim.Native.Nat.{◌-◌, ◌≤◌}
 use mathlib.Core.Path.{◌≡◌}
 use lib.ListN.{length, drop}
 use Rattle.text_read.specs.Numerals.{unprefixed}
-use Rattle.text_read.proofs.Laws.{prefix_laws}
 use Rattle.text_read.proofs.prefix_length.Given as goal
 
 abbrev pub invariant-loop-i : goal.invariant-loop-i

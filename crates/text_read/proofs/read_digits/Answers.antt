@@ -1,10 +1,6 @@
 -- `read_digits` answers the numeral: what is left of the text, after the value so far, says what the whole text says.
-use Prim.Native.Nat.{◌+◌, ◌-◌, ◌≤◌}
-use mathlib.Core.Path.{◌≡◌}
 use native.Mathlib.Omega.{arith}
-use lib.ListN.{length, drop}
-use Rattle.text_read.specs.Numerals.{numeral}
-use Rattle.text_read.proofs.Laws.{numeral_from, read_laws, read_other, read_beyond, read_over}
+use Rattle.text_read.proofs.Laws.{read_laws, read_other, read_beyond, read_over}
 use Rattle.text_read.proofs.read_digits.Goals as goal
 
 pub returns-then-digits-eq0 : goal.returns-then-digits-eq0

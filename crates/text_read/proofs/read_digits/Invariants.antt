@@ -1,10 +1,9 @@
 -- `read_digits` answers the numeral: what is left of the text, after the value so far, says what the whole text says.
 use Prim.Native.Nat.{◌+◌, ◌-◌, ◌≤◌}
 use mathlib.Core.Path.{◌≡◌}
-use native.Mathlib.Omega.{arith}
 use lib.ListN.{length, drop}
 use Rattle.text_read.specs.Numerals.{numeral}
-use Rattle.text_read.proofs.Laws.{numeral_from, sum_fits, read_laws}
+use Rattle.text_read.proofs.Laws.{numeral_from}
 use Rattle.text_read.proofs.read_digits.Given as goal
 
 abbrev pub invariant-loop-i : goal.invariant-loop-i

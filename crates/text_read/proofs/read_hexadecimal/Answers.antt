@@ -1,6 +1,5 @@
 -- `read_hexadecimal` answers the number after `0x` and a plus.
 use Rattle.text_read.proofs.Laws.{hex_laws}
-use borrow.Author.Rules.{rules}
 use Rattle.text_read.proofs.read_hexadecimal.Goals as goal
 
 pub returns-then-rest-eq0 : goal.returns-then-rest-eq0

@@ -1,9 +1,5 @@
 -- `read_sixteen` answers the numeral of sixteen digits: the value so far is below 16 ^ i.
-use Prim.Native.Nat.{◌+◌, ◌-◌, ◌^◌, ◌<◌, ◌≤◌}
-use mathlib.Core.Path.{◌≡◌}
-use lib.ListN.{drop}
-use Rattle.text_read.specs.Numerals.{numeral}
-use Rattle.text_read.proofs.Laws.{numeral_from, sixteen_laws}
+use Rattle.text_read.proofs.Laws.{sixteen_laws}
 use Rattle.text_read.proofs.read_sixteen.Goals as goal
 
 pub loop-i-init : goal.loop-i-init

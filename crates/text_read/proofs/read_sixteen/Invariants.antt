@@ -3,7 +3,7 @@ use Prim.Native.Nat.{◌+◌, ◌-◌, ◌^◌, ◌<◌, ◌≤◌}
 use mathlib.Core.Path.{◌≡◌}
 use lib.ListN.{drop}
 use Rattle.text_read.specs.Numerals.{numeral}
-use Rattle.text_read.proofs.Laws.{numeral_from, sixteen_laws}
+use Rattle.text_read.proofs.Laws.{numeral_from}
 use Rattle.text_read.proofs.read_sixteen.Given as goal
 
 abbrev pub invariant-loop-i : goal.invariant-loop-i

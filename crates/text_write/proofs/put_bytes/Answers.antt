@@ -1,8 +1,4 @@
 -- put_bytes: storing what is left of the source, from where the loop stands, comes to storing all of it.
-use Prim.Native.Nat.{◌+◌, ◌-◌, ◌≤◌}
-use mathlib.Core.Path.{◌≡◌}
-use lib.ListN.{length, drop}
-use lib.Seq.{sets}
 use Rattle.text_write.proofs.Steps.{copy_laws}
 use Rattle.text_write.proofs.put_bytes.Goals as goal
 

@@ -1,13 +1,9 @@
 -- `lowest_register` meets its contract. The invariant: in the place whose index is p, the search in which clear and found tell of the registers before i
 -- answers as the whole search. While clear is 1 found is i, and once it is 0 found is below i.
-use mathlib.Core.Path.{◌≡◌, refl}
-use Prim.Native.Nat.{◌+◌, ◌-◌, ◌*◌, ◌≤◌}
+use mathlib.Core.Path.{refl}
 use native.Mathlib.Omega.{arith}
-use Rattle.vm_opcodes.specs.Operations.{bit}
-use Rattle.vm_hardware.specs.declared.Place.{Place}
-use Rattle.vm_hardware.specs.Registers.{place_index, registers, register_bit, register_in}
-use Rattle.vm_hardware.proofs.Laws.{placed_lt, shift_at_lt, searched, times_bit, times_bit_lt, looked, none_found, one_found}
-use borrow.Author.Rules.{rules}
+use Rattle.vm_hardware.specs.Registers.{registers}
+use Rattle.vm_hardware.proofs.Laws.{looked, none_found, one_found}
 use Rattle.vm_hardware.proofs.lowest_register.Goals as goal
 
 pub loop-i-preserved : goal.loop-i-preserved

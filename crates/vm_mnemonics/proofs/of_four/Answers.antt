@@ -1,5 +1,5 @@
 -- `of_four` meets its contract: a comparison that holds tells the operation, and where none holds the piece is no spelling of four bytes.
-use mathlib.Core.Path.{refl, sym, ◌∙◌}
+use mathlib.Core.Path.{sym, ◌∙◌}
 use Rattle.vm_opcodes.specs.Operations.{operations}
 use Rattle.vm_opcodes.specs.declared.OlaOpcode.TheVariants.{CJMP, CALL}
 use Rattle.vm_mnemonics.proofs.Laws.{spelled, unspelled, of_length, Refused}

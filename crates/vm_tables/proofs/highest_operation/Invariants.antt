@@ -1,10 +1,8 @@
 -- `highest_operation` meets its contract. The invariant: the first operation from place i on that passes is the whole search's answer.
-use mathlib.Core.Path.{◌≡◌, refl}
+use mathlib.Core.Path.{◌≡◌}
 use Prim.Native.Nat.{◌-◌, ◌≤◌}
-use native.Mathlib.Omega.{arith}
 use lib.ListN.{drop}
 use Rattle.vm_opcodes.specs.Operations.{operations, operation_in, first_operation, bit, operation_bit}
-use Rattle.vm_opcodes.proofs.Laws.{found, passed, none_left}
 use Rattle.vm_tables.proofs.highest_operation.Given as goal
 
 abbrev pub invariant-loop-i : goal.invariant-loop-i

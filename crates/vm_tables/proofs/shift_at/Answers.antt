@@ -2,7 +2,6 @@
 use mathlib.Core.Path.{refl}
 use Prim.Native.Nat.{ℕ, ◌-◌}
 use Rattle.vm_opcodes.proofs.Table.{placed}
-use borrow.Author.Rules.{rules}
 use Rattle.vm_tables.proofs.shift_at.Goals as goal
 
 pub returns : goal.returns

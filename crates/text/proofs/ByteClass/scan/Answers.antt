@@ -1,9 +1,4 @@
 -- `text::ByteClass::scan` meets its contract.
-use Prim.Native.Nat.{◌+◌, ◌-◌, ◌≤◌}
-use mathlib.Core.Path.{◌≡◌}
-use lib.ListN.{length, drop}
-use Rattle.text.specs.Scan.{scan}
-use Rattle.text.specs.Classes.{holds}
 use Rattle.text.proofs.Laws.{scan_laws}
 use Rattle.text.proofs.ByteClass.scan.Goals as goal
 

@@ -4,7 +4,6 @@ use mathlib.Core.Path.{◌≡◌}
 use lib.ListN.{length, drop}
 use Rattle.text.specs.Scan.{scan}
 use Rattle.text.specs.Classes.{holds}
-use Rattle.text.proofs.Laws.{scan_laws}
 use Rattle.text.proofs.ByteClass.scan.Given as goal
 
 abbrev pub invariant-loop-i : goal.invariant-loop-i
