@@ -3,9 +3,8 @@ use Rattle.program_bytecode.proofs.Laws.{write_line_laws}
 use borrow.Author.Rules.{rules}
 use Rattle.program_bytecode.proofs.write_line.Goals as goal
 
--- TODO no old answer
 pub overflow_add-result : goal.overflow_add-result
-overflow_add-result c = ?
+overflow_add-result c = search write_line_laws
 
 pub returns-in-Count : goal.returns-in-Count
 returns-in-Count c = search write_line_laws
