@@ -211,8 +211,8 @@ fn encode_table(
 }
 
 // Assembles a source with a prophet list: the label table into the five slices, 7 where the shortest is too short, the words and the hosts.
-// Promises: counts_answered, words-left, columns_left_lem, same_words, same_bytecode, one_program, words_ahead, accepted_has_rows, lengths_are_one,
-// addresses_are_positions, instructions_stand, names_are_word_counts, table_is_positions, later_kept, kept_counted, rows_by_lines_lem, same-lines, room_is_built,
+// Promises: counts_answered, words_left_lem, columns_left_lem, same_words, same_bytecode, one_program, words_ahead, accepted_has_rows, lengths_are_one,
+// addresses_are_positions, instructions_stand, names_are_word_counts, table_is_positions, later_kept, kept_counted, rows_by_lines_lem, same_lines, room_is_built,
 // room_refused, room_suffices, room_never_short, source_assembles, source_words_fit, source_reads_again, no_row_reads_so, source_same_words.
 pub fn assemble_parts(
     source: &[u8],

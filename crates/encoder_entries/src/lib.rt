@@ -7,8 +7,8 @@ use encoder::Assembly;
 use relocate::LabelEntry;
 
 // Assembles a source with a prophet list: the label table, the words and the hosts.
-// Promises: counts_answered, words-left, table_left_lem, same_words, same_bytecode, one_program, words_ahead, accepted_has_rows, lengths_are_one,
-// addresses_are_positions, instructions_stand, names_are_word_counts, table_is_positions, later_kept, kept_counted, rows_by_lines_lem, same-lines, room_is_built,
+// Promises: counts_answered, words_left_lem, table_left_lem, same_words, same_bytecode, one_program, words_ahead, accepted_has_rows, lengths_are_one,
+// addresses_are_positions, instructions_stand, names_are_word_counts, table_is_positions, later_kept, kept_counted, rows_by_lines_lem, same_lines, room_is_built,
 // room_refused, room_suffices, room_never_short, source_assembles, source_words_fit, source_reads_again, no_row_reads_so, source_same_words.
 pub fn assemble(
     source: &[u8],

@@ -142,7 +142,7 @@ fn write_fitting(bytecode: &[u8], text: &mut [u8]) -> SourceWritten
 }
 
 // Writes the source of a bytecode, `main:` and a row for each instruction, or says why not and leaves the text as it is: 14 to 19, then 26, then 23.
-// Promises: source_left, source_refused, first_off_row_lem, source_written_lem, source-fits, source_assembles, source_words_fit, source_reads_again,
+// Promises: source_left, source_refused, first_off_row_lem, source_written_lem, source_fits, source_assembles, source_words_fit, source_reads_again,
 // source_of_accepted.
 pub fn write_source(bytecode: &[u8], text: &mut [u8]) -> SourceWritten
     ensures { (source_numbered result ≡ count_of (source_written bytecode.now (length text.old))) × (text.new ≡ text_left (source_written bytecode.now (length text.old)) text.old) }
