@@ -1,4 +1,5 @@
 // Names resolved, the canonical program and assembling: assembler/src/encoder.rs.
+#![tactic(auto)]
 use asm::RowCount;
 use relocate::RelocateRefusal;
 

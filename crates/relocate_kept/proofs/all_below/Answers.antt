@@ -1,0 +1,17 @@
+-- `relocate_kept::all_below` meets its contract.
+use Prim.Native.Nat.{◌-◌}
+use mathlib.Core.Path.{◌≡◌}
+use lib.Dec.{ltb}
+use lib.ListN.{length, drop}
+use Rattle.text.specs.Scan.{all}
+use Rattle.relocate_kept.proofs.KeptLaws.{all_laws}
+use Rattle.relocate_kept.proofs.all_below.Goals as goal
+
+pub returns-then-hosts-i : goal.returns-then-hosts-i
+returns-then-hosts-i c = search all_laws
+
+pub loop-i-preserved : goal.loop-i-preserved
+loop-i-preserved c = search all_laws
+
+pub returns : goal.returns
+returns c = search all_laws
