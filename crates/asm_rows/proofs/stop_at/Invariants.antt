@@ -1,0 +1,12 @@
+use Rattle.asm_rows.proofs.EndLaws.{stop_laws}
+use Prim.Native.Nat.{◌-◌}
+use mathlib.Core.Path.{◌≡◌, refl}
+use lib.ListN.{length}
+use Rattle.asm_rows.specs.Found.{stop_at}
+use Rattle.asm_rows.proofs.stop_at.Given as goal
+
+abbrev pub invariant-loop-i : goal.invariant-loop-i
+invariant-loop-i l = stop_at l.source l.at l.mark ≡ stop_at l.source l.i l.mark
+
+abbrev pub decreases-loop-i : goal.decreases-loop-i
+decreases-loop-i l = length l.source - l.i

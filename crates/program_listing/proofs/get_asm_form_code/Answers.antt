@@ -1,0 +1,19 @@
+-- `get_asm_form_code` meets its contract.
+use mathlib.Core.Path.{sym}
+use native.Mathlib.Omega.{arith}
+use lib.Seq.{length-take-le}
+use Rattle.program_listing.proofs.Laws.{row_laws}
+use borrow.Author.Rules.{rules}
+use Rattle.program_listing.proofs.get_asm_form_code.Goals as goal
+
+pub returns-then-has_too_large : goal.returns-then-has_too_large
+returns-then-has_too_large c = search row_laws
+
+pub returns-then-lacks_place : goal.returns-then-lacks_place
+returns-then-lacks_place c = search row_laws
+
+pub returns-in-Count : goal.returns-in-Count
+returns-in-Count c = search row_laws
+
+pub returns-in-Short : goal.returns-in-Short
+returns-in-Short c = search row_laws
