@@ -15,7 +15,7 @@ pub returns-then-n-gt65535 : goal.returns-then-n-gt65535
 returns-then-n-gt65535 c = search link_laws
 
 pub loop-i-preserved : goal.loop-i-preserved
-loop-i-preserved c = (search link_laws, search link_laws, link_more _ _ _ _ _ _ _ c.shortest-n.ensures _ _ _ c.loop-i.invariant.2 _ _ _ c.loop-i-test.true c.name_at-name.ensures.1 c.bucket_of-bucket.ensures.0 c.as_cell.ensures)
+loop-i-preserved c = (search link_laws, search link_laws, link_more _ _ _ _ _ _ _ c.shortest-n.ensures _ _ _ c.loop-i.invariant.2 _ _ _ c.loop-i-test.true c.name_at-name.ensures.result_value_2 c.bucket_of-bucket.ensures.0 c.as_cell.ensures)
 
 pub returns : goal.returns
 returns c = search link_laws
