@@ -1,5 +1,6 @@
 // Numbers and operands: core/src/vm/operands.rs.
 #![tactic(auto)]
+
 ghost use Rattle.std.specs.Prelude.{◌≡◌};
 ghost use Rattle.text_write.specs.Put.{put_count, put_into};
 ghost use Rattle.text_write.specs.Digits.{fewest_text};

@@ -1,5 +1,6 @@
 // The spellings of the registers, read and written: `from_str` and `Display` of core/src/vm/hardware.rs.
 #![tactic(auto)]
+
 ghost use Rattle.std.specs.Prelude.{◌≡◌};
 ghost use Rattle.text_write.specs.Put.{put_count, put_into};
 ghost use Rattle.vm_hardware.specs.Registers.{register_text, register_of, special_text, special_of};

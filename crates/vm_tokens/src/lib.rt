@@ -1,5 +1,6 @@
 // The mnemonics written: `token` of core/src/vm/opcodes.rs.
 #![tactic(auto)]
+
 ghost use Rattle.std.specs.Prelude.{◌≡◌, length};
 ghost use Rattle.text_write.specs.Put.{put_count, put_into};
 ghost use Rattle.vm_mnemonics.specs.Mnemonics.{mnemonic};

@@ -2,7 +2,6 @@
 use Rattle.text.specs.Bytes.{is_digit}
 use Rattle.text.proofs.Laws.{tests}
 use Rattle.vm_hardware.specs.Registers.{registers, register_of}
-use borrow.Author.Rules.{rules}
 use Rattle.vm_registers.proofs.register_from_str.Goals as goal
 
 pub returns-then-piece-ne2 : goal.returns-then-piece-ne2

@@ -1,6 +1,5 @@
 -- `special_from_str` meets its contract.
 use Rattle.vm_registers.proofs.Laws.{special_laws}
-use borrow.Author.Rules.{rules}
 use Rattle.vm_registers.proofs.special_from_str.Goals as goal
 
 pub returns-then-same_bytes : goal.returns-then-same_bytes

@@ -1,7 +1,6 @@
 -- `ImmediateValue::from_sign` meets its contract.
 use native.Mathlib.Omega.{arith}
 use Rattle.vm_operands.proofs.Laws.{sign_none, sign_over, sign_zero, sign_minus, sign_plain}
-use borrow.Author.Rules.{rules}
 use Rattle.vm_operands.proofs.ImmediateValue.from_sign.Goals as goal
 
 pub returns-then-m-ge-ORDER : goal.returns-then-m-ge-ORDER

@@ -1,6 +1,5 @@
 -- `ImmediateValue::from_str` meets its contract.
 use Rattle.vm_operands.proofs.Laws.{number_laws}
-use borrow.Author.Rules.{rules}
 use Rattle.vm_operands.proofs.ImmediateValue.from_str.Goals as goal
 
 pub returns-then-piece-eq0 : goal.returns-then-piece-eq0

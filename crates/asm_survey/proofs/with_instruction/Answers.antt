@@ -1,0 +1,6 @@
+use Rattle.asm_survey.proofs.Laws.{more_laws}
+use borrow.Author.Rules.{rules}
+use Rattle.asm_survey.proofs.with_instruction.Goals as goal
+
+pub returns : goal.returns
+returns c = search more_laws

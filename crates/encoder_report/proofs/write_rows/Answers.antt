@@ -1,0 +1,18 @@
+-- `write_rows` meets its contract.
+use Prim.Native.Nat.{◌+◌, ◌-◌, ◌≤◌}
+use mathlib.Core.Path.{◌≡◌}
+use mathlib.Core.Bool.{false}
+use lib.ListN.{length, drop}
+use lib.Seq.{sets}
+use Rattle.encoder_report.specs.Left.{rows_left}
+use Rattle.encoder_report.proofs.Laws.{rows_laws}
+use Rattle.encoder_report.proofs.write_rows.Goals as goal
+
+pub write_row-at-requires : goal.write_row-at-requires
+write_row-at-requires c = search rows_laws
+
+pub loop-i-preserved : goal.loop-i-preserved
+loop-i-preserved c = (search rows_laws, search rows_laws, search rows_laws, search rows_laws)
+
+pub returns : goal.returns
+returns c = search rows_laws
