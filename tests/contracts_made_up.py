@@ -3,6 +3,7 @@
 MADE_UP is a project of its own, its files by their paths. In crates/made/src/below/wrong.rt each function must be found wrong, for the reason that the
 comment above it begins with and for no other; in the other files each must be found right.
 FILES are texts of files that cannot be read whole, each with the reason, and some that can.
+SHARED is a project of a library `shared` and a static library `shared_c` over it; EXPORTED are the functions in which they differ.
 ORDERS are texts like crates.txt with a `program` and a `part` of test programs, each with the crates that are at fault in it.
 """
 import re
@@ -42,289 +43,319 @@ pub struct Left {
 }
 """,
     'crates/made/specs/Maps.antt': """
-use lib.Half.{half}
-use lib.ListN.{length}
-use denote.Ref.{RefT, ptr, now}
-use Rattle·text.specs.Answer.{Answer, ok, refused, refused as declined}
-use Rattle·made·specs.specs.Why.{whyNumber, whyDetail, whyLine}
-use Rattle·made·specs.specs.declared.Read.the-variants.{Is, Blank, Refused as ReadRefused}
-use Rattle·made·specs.specs.declared.Kind.the-variants.{First, Second, Third}
+use Rattle.std.specs.Prelude.{ℕ, List, length, half}
+use Rattle.std.specs.Borrow.{Bor}
+use Rattle.text.specs.Answer.{Answer, ok, refused, refused as declined}
+use Rattle.made.specs.Why.{why_number, why_detail, why_line}
+use Rattle.made.specs.declared.Read.TheVariants.{Is, Blank, Refused as ReadRefused}
+use Rattle.made.specs.declared.Kind.TheVariants.{First, Second, Third}
 
 -- whole: each case has an answer of its own, in which every value stands
-abbrev pub readTold : Read → Answer ℕ
-readTold (Is n) = ok n
-readTold Blank = refused 4 tt
-readTold (ReadRefused why) = refused (whyNumber why) (whyDetail why)
+abbrev pub read_told : Read → Answer ℕ
+read_told (Is n) = ok n
+read_told Blank = refused 4 tt
+read_told (ReadRefused why) = refused (why_number why) (why_detail why)
 
 -- whole: every field
-abbrev pub stepTold : Step → Stepped
-stepTold r = record {
-  answer = readTold (r .read);
-  reader = record { text = r .text; line = r .line };
+abbrev pub step_told : Step → Stepped
+step_told r = record {
+  answer = read_told r.read;
+  reader = record { text = r.text; line = r.line };
 }
 
 -- where a reference points; what it holds is to be said beside it
-abbrev pub points : RefT (List ℕ) → Reference
-points r = record { points = ptr r; length = length (now r) }
+abbrev pub points : Bor (List ℕ) → Reference
+points r = record { points = r.ref_ptr; length = length r.now }
 
 -- whole: what two buffers hold
-abbrev pub bothHold : RefT (List ℕ) → RefT (List ℕ) → Both
-bothHold t u = record { first = now t; second = record { held = now u } }
+abbrev pub both_hold : Bor (List ℕ) → Bor (List ℕ) → Both
+both_hold t u = record { first = t.now; second = record { held = u.now } }
 
 -- the second is lost
-abbrev pub firstHolds : RefT (List ℕ) → RefT (List ℕ) → Both
-firstHolds t u = record { first = now t; second = half (now u) }
+abbrev pub first_holds : Bor (List ℕ) → Bor (List ℕ) → Both
+first_holds t u = record { first = t.now; second = half u.now }
 
 -- where the second points
-abbrev pub secondPoints : RefT (List ℕ) → RefT (List ℕ) → Both
-secondPoints t u = record { first = now t; second = ptr u }
+abbrev pub second_points : Bor (List ℕ) → Bor (List ℕ) → Both
+second_points t u = record { first = t.now; second = u.ref_ptr }
 
 -- the answer of Blank is one of Refused's too
-abbrev pub readMerged : Read → Answer ℕ
-readMerged (Is n) = ok n
-readMerged Blank = refused 1 tt
-readMerged (ReadRefused why) = refused (whyNumber why) (whyDetail why)
+abbrev pub read_merged : Read → Answer ℕ
+read_merged (Is n) = ok n
+read_merged Blank = refused 1 tt
+read_merged (ReadRefused why) = refused (why_number why) (why_detail why)
 
 -- the column is lost, in a definition below
-abbrev pub readLineOnly : Read → Answer ℕ
-readLineOnly (Is n) = ok n
-readLineOnly Blank = refused 4 0
-readLineOnly (ReadRefused why) = refused (whyNumber why) (whyLine why)
+abbrev pub read_line_only : Read → Answer ℕ
+read_line_only (Is n) = ok n
+read_line_only Blank = refused 4 0
+read_line_only (ReadRefused why) = refused (why_number why) (why_line why)
 
-abbrev pub stepForgets : Step → Stepped
-stepForgets r = record { answer = readTold (r .read); line = r .line }
+abbrev pub step_forgets : Step → Stepped
+step_forgets r = record { answer = read_told r.read; line = r.line }
 
-abbrev pub stepHalves : Step → Stepped
-stepHalves r = record { answer = readTold (r .read); text = r .text; line = half (r .line) }
+abbrev pub step_halves : Step → Stepped
+step_halves r = record { answer = read_told r.read; text = r.text; line = half r.line }
 
-abbrev pub readWild : Read → Answer ℕ
-readWild (Is n) = ok n
-readWild other = refused 4 0
+abbrev pub read_wild : Read → Answer ℕ
+read_wild (Is n) = ok n
+read_wild other = refused 4 0
 
-abbrev pub kindWild : Kind → ℕ
-kindWild First = 0
-kindWild _ = 1
+abbrev pub kind_wild : Kind → ℕ
+kind_wild First = 0
+kind_wild _ = 1
 
-abbrev pub kindMerged : Kind → ℕ
-kindMerged First = 0
-kindMerged Second = 1
-kindMerged Third = 0
+abbrev pub kind_merged : Kind → ℕ
+kind_merged First = 0
+kind_merged Second = 1
+kind_merged Third = 0
 
-abbrev pub kindLacks : Kind → ℕ
-kindLacks First = 0
-kindLacks Second = 1
+abbrev pub kind_lacks : Kind → ℕ
+kind_lacks First = 0
+kind_lacks Second = 1
 
-abbrev pub kindTold : Kind → ℕ
-kindTold First = 0
-kindTold Second = 1
-kindTold Third = 2
+abbrev pub kind_told : Kind → ℕ
+kind_told First = 0
+kind_told Second = 1
+kind_told Third = 2
 
-abbrev pub kindNumerals : Kind → ℕ
-kindNumerals First = 1
-kindNumerals Second = 01
-kindNumerals Third = 2
+abbrev pub kind_numerals : Kind → ℕ
+kind_numerals First = 1
+kind_numerals Second = 01
+kind_numerals Third = 2
 
-abbrev pub kindAlias : Kind → Answer ℕ
-kindAlias First = refused 1 0
-kindAlias Second = declined 1 0
-kindAlias Third = refused 2 0
+abbrev pub kind_alias : Kind → Answer ℕ
+kind_alias First = refused 1 0
+kind_alias Second = declined 1 0
+kind_alias Third = refused 2 0
 
-abbrev pub readLiteral : Read → Answer ℕ
-readLiteral (Is zero) = ok 0
-readLiteral (Is n) = ok n
-readLiteral Blank = refused 4 tt
-readLiteral (ReadRefused why) = refused (whyNumber why) (whyDetail why)
+abbrev pub read_literal : Read → Answer ℕ
+read_literal (Is zero) = ok 0
+read_literal (Is n) = ok n
+read_literal Blank = refused 4 tt
+read_literal (ReadRefused why) = refused (why_number why) (why_detail why)
 
-abbrev pub kindHidden : Kind → ℕ
-kindHidden First
+abbrev pub kind_hidden : Kind → ℕ
+kind_hidden First
   = 1
-kindHidden First = 0
-kindHidden Second = 1
-kindHidden Third = 2
+kind_hidden First = 0
+kind_hidden Second = 1
+kind_hidden Third = 2
 
-abbrev pub kindUnlisted : Kind → ℕ
-kindUnlisted First = 0
-kindUnlisted Second = 1
-kindUnlisted Third = 2
+abbrev pub kind_unlisted : Kind → ℕ
+kind_unlisted First = 0
+kind_unlisted Second = 1
+kind_unlisted Third = 2
 
 unfoldable pub good : ℕ → ℕ
 good n = half n
 """,
     'crates/made/specs/Other.antt': """
-use denote.Ref.{RefT, ptr as now}
+use Rattle.std.specs.Borrow.{Bor}
 
 -- `now` is another name here
-abbrev pub bothPoint : RefT (List ℕ) → RefT (List ℕ) → Both
-bothPoint t u = record { first = now t; second = now u }
+now : Bor (List ℕ) → ℕ × ℕ
+now t = t.ref_ptr
+
+abbrev pub both_point : Bor (List ℕ) → Bor (List ℕ) → Both
+both_point t u = record { first = now t; second = now u }
+""",
+    'crates/text/specs/Answer.antt': """
+pub data Answer (A : Type 0) : Type 0 where
+  ok : A → Answer A
+  refused : ℕ → ℕ → Answer A
 """,
     'crates/made/specs/Why.antt': """
-use Rattle·made·specs.specs.declared.Why.the-variants.{TooLong, NoWord, NoPlace}
+use Rattle.made.specs.declared.Why.TheVariants.{TooLong, NoWord, NoPlace}
 
-whyNumber : Why → ℕ
-whyNumber TooLong = 1
-whyNumber (NoWord line) = 2
-whyNumber (NoPlace line column) = 3
+why_number : Why → ℕ
+why_number TooLong = 1
+why_number (NoWord line) = 2
+why_number (NoPlace line column) = 3
 
-whyDetail : Why → Detail
-whyDetail TooLong = tt
-whyDetail (NoWord line) = line
-whyDetail (NoPlace line column) = record { line = line .0; column = column }
+why_detail : Why → Detail
+why_detail TooLong = tt
+why_detail (NoWord line) = line
+why_detail (NoPlace line column) = record { line = line.0; column = column }
 
-whyLine : Why → ℕ
-whyLine TooLong = 0
-whyLine (NoWord line) = line .0
-whyLine (NoPlace line column) = line .0
+why_line : Why → ℕ
+why_line TooLong = 0
+why_line (NoWord line) = line.0
+why_line (NoPlace line column) = line.0
 """,
     'crates/made/src/right.rt': """
 use made::Step;
-ghost use Rattle·made·specs.specs.Maps.{readTold, stepTold, kindTold, points, bothHold, good, good as fine};
+ghost use Rattle.made.specs.Maps.{read_told, step_told, kind_told, points, both_hold, good, good as fine};
 pub fn plain(x: u8) -> u8
-    ensures { λ r. ⌜ r ≡ good x ⌝ }
+    ensures { result ≡ good x }
 { x }
 pub fn lent(t: &mut [u8], u: &mut [bool]) -> Kind
-    ensures { λ r. ⌜ (kindTold r ≡ fine (now (t .entry))) × ((now (t .exit) ≡ good 1) × (now (u .exit) ≡ good 2)) ⌝ }
+    ensures { (kind_told result ≡ fine t.old) × ((t.new ≡ good 1) × (u.new ≡ good 2)) }
 { x }
 pub fn lent_together(t: &mut [u8], u: &mut [u8])
-    ensures { λ _. ⌜ bothHold (t .exit) (u .exit) ≡ good (now (t .entry)) ⌝ }
+    ensures { both_hold t.exit u.exit ≡ good t.old }
+{ x }
+pub fn lent_by_exit(t: &mut [u8])
+    ensures { t.exit.now ≡ good t.old }
 { x }
 pub fn cases(x: u8) -> Read
-    ensures { λ r. ⌜ readTold r ≡ good x ⌝ }
+    ensures { read_told result ≡ good x }
 { x }
 pub fn fields<'a>(text: &'a [u8]) -> Step<'a>
-    ensures { λ r. ⌜ stepTold r ≡ good x ⌝ }
+    ensures { step_told result ≡ good x }
 { x }
 pub fn field_by_field<'a>(text: &'a [u8]) -> Step<'a>
-    ensures { λ r. ⌜ (r .line ≡ good x) × (readTold (r .read) ≡ good x) ⌝ }
-    ensures { λ step. ⌜ step .text ≡ good text ⌝ }
+    ensures line_and_read { (result.line ≡ good x) × (read_told result.read ≡ good x) }
+    ensures text { result.text ≡ good text }
 { x }
 pub fn reference<'a>(text: &'a [u8]) -> &'a [u8]
-    ensures { λ r. ⌜ (points r ≡ fine (text .entry)) × (now r ≡ good (now (text .entry))) ⌝ }
+    ensures { (points result ≡ fine text.entry) × (result.now ≡ good text.now) }
 { text }
 pub fn reference_itself<'a>(text: &'a [u8]) -> &'a [u8]
-    ensures { λ r. ⌜ r ≡ good (text .entry) ⌝ }
+    ensures { result ≡ good text.entry }
 { text }
 """,
     'crates/made/src/below/wrong.rt': """
 use made::Read;
 use made::Step;
-ghost use lib.ListN.{length};
-ghost use Rattle·made·specs.specs.Maps.{good, readTold, readMerged, readLineOnly, readWild, stepForgets, stepHalves, points, bothHold, firstHolds, secondPoints};
-ghost use Rattle·made.specs.Maps.{kindWild, kindMerged, kindLacks, kindUnlisted, kindNumerals, kindAlias, kindHidden, readLiteral};
-ghost use Rattle·made·specs.specs.Other.{bothPoint};
+ghost use Rattle.std.specs.Prelude.{◌≡◌, ltb, length, OnOk};
+ghost use Rattle.made.specs.Maps.{good, read_told, read_merged, read_line_only, read_wild, step_forgets, step_halves, points, both_hold, first_holds, second_points};
+ghost use Rattle.made.specs.Maps.{kind_wild, kind_merged, kind_lacks, kind_unlisted, kind_numerals, kind_alias, kind_hidden, read_literal};
+ghost use Rattle.made.specs.Other.{both_point};
 use made::Left;
 use made::Within;
 // nothing is said of the result
 pub fn unsaid(x: u8) -> u8 { x }
 // it has a requires
 pub fn asks(x: u8) -> u8
-    requires { ⌜ x < 3 ⌝ }
-    ensures { λ r. ⌜ r ≡ good x ⌝ }
+    requires { x < 3 }
+    ensures { result ≡ good x }
 { x }
 // nothing is said of t at the exit
 pub fn before(t: &mut [u8]) -> u8
-    ensures { λ r. ⌜ (r ≡ good (now (t .entry))) × (now (t .entry) ≡ good 1) ⌝ }
+    ensures { (result ≡ good t.old) × (t.old ≡ good 1) }
 { 1 }
 // `ltb` is no name of specs/
 pub fn foreign(x: u8) -> u8
-    ensures { λ r. ⌜ r ≡ ltb x 3 ⌝ }
+    ensures { result ≡ ltb x 3 }
 { x }
 // the right side speaks of the outcome
 pub fn itself(x: u8) -> u8
-    ensures { λ r. ⌜ r ≡ good r ⌝ }
+    ensures { result ≡ good result }
 { x }
 impl Z {
     // nothing is said of u at the exit
     pub fn method<'a>(self, t: &'a mut [u8], u: &mut [bool])
-        ensures { λ _. ⌜ now (t .exit) ≡ good 1 ⌝ }
+        ensures { t.new ≡ good 1 }
     { }
     // nothing is said of self at the exit
     pub fn changes(&mut self) -> u8
-        ensures { λ r. ⌜ r ≡ good 1 ⌝ }
+        ensures { result ≡ good 1 }
     { }
 }
 // nothing is said of the result
-#[no_mangle]
+#[unsafe(no_mangle)]
 pub extern "C" fn exported(x: u64) -> u64 { x }
 // an implication
 pub fn implied(x: u8) -> u8
-    ensures { λ r. ⌜ (x ≡ 3) → (r ≡ good x) ⌝ }
+    ensures { (x ≡ 3) → (result ≡ good x) }
 { x }
 // a disjunction
 pub fn either(x: u8) -> u8
-    ensures { λ r. ⌜ (r ≡ good x) ⊎ (r ≡ good 1) ⌝ }
+    ensures { (result ≡ good x) ⊎ (result ≡ good 1) }
 { x }
 // a disjunction
 pub fn either_below(x: u8) -> u8
-    ensures { λ r. ⌜ (r ≡ good x) × ((r ≡ good x) ∨ (r ≡ good 1)) ⌝ }
+    ensures { (result ≡ good x) × ((result ≡ good x) ∨ (result ≡ good 1)) }
 { x }
 // an inequality
 pub fn at_most(x: u8) -> u8
-    ensures { λ r. ⌜ r ≤ good x ⌝ }
+    ensures { result ≤ good x }
 { x }
 // no equation
 pub fn not_so(x: u8) -> u8
-    ensures { λ r. ⌜ ¬ (r ≡ good x) ⌝ }
+    ensures { ¬ (result ≡ good x) }
+{ x }
+// no equation
+pub fn on_ok(x: u8) -> Result<u8, u8>
+    ensures { OnOk result (good x ≡ good 1) }
 { x }
 // an ensures that is no fact
 pub fn two_facts(x: u8) -> u8
-    ensures { λ r. ⌜ r ≡ good x ⌝ -∗ ⌜ r ≡ good x ⌝ }
+    ensures { ⌜ result ≡ good x ⌝ -∗ ⌜ result ≡ good x ⌝ }
+{ x }
+// an ensures that is no fact
+pub fn starred(x: u8) -> u8
+    ensures* { result ≡ good x }
 { x }
 // a length alone is said
 pub fn as_long(t: &mut [u8])
-    ensures { λ _. ⌜ length (now (t .exit)) ≡ good 1 ⌝ }
+    ensures { length t.new ≡ good 1 }
 { }
 // nothing is said of u at the exit
 pub fn one_buffer_halved(t: &mut [u8], u: &mut [u8])
-    ensures { λ _. ⌜ firstHolds (t .exit) (u .exit) ≡ good 1 ⌝ }
+    ensures { first_holds t.exit u.exit ≡ good 1 }
 { }
 // nothing is said of u at the exit
 pub fn one_buffer_pointed_at(t: &mut [u8], u: &mut [u8])
-    ensures { λ _. ⌜ secondPoints (t .exit) (u .exit) ≡ good 1 ⌝ }
+    ensures { second_points t.exit u.exit ≡ good 1 }
 { }
 // nothing is said of u at the exit
 pub fn one_buffer_twice(t: &mut [u8], u: &mut [u8])
-    ensures { λ _. ⌜ bothHold (t .exit) (t .exit) ≡ good 1 ⌝ }
+    ensures { both_hold t.exit t.exit ≡ good 1 }
 { }
 // nothing is said of t at the exit
 pub fn both_pointed_at(t: &mut [u8], u: &mut [u8])
-    ensures { λ _. ⌜ bothPoint (t .exit) (u .exit) ≡ good 1 ⌝ }
+    ensures { both_point t.exit u.exit ≡ good 1 }
 { }
 // nothing is said of t at the exit
 pub fn result_of_that_name(t: &mut [u8]) -> Left
-    ensures { λ r. ⌜ r ≡ good 1 ⌝ }
-    ensures { λ t. ⌜ t .exit ≡ good 1 ⌝ }
+    ensures whole { result ≡ good 1 }
+    ensures part { result.exit ≡ good 1 }
+{ }
+// a parameter has the name of the result
+pub fn named_result(result: &mut [u8])
+    ensures { result.new ≡ good 1 }
+{ }
+// `read_told (result .read)` cannot be read
+pub fn loose(x: u8) -> Step<'a>
+    ensures { read_told (result .read) ≡ good x }
+{ x }
+// nothing is said of t at the exit
+pub fn lent_pointer(t: &mut [u8])
+    ensures { t.exit.ref_ptr ≡ good 1 }
 { }
 // nothing is said of t at the exit
 pub fn buffers_before(t: &mut [u8], u: &mut [u8])
-    ensures { λ _. ⌜ bothHold (t .entry) (u .exit) ≡ good 1 ⌝ }
+    ensures { both_hold t.entry u.exit ≡ good 1 }
 { }
-// `kindUnlisted` is no listed map
+// `kind_unlisted` is no listed map
 pub fn unlisted(x: u8) -> Kind
-    ensures { λ r. ⌜ kindUnlisted r ≡ good x ⌝ }
+    ensures { kind_unlisted result ≡ good x }
 { x }
-// `kindUnlisted` is no listed map
+// `kind_unlisted` is no listed map
 pub fn unlisted_in_record(x: u8) -> Kind
-    ensures { λ r. ⌜ record { kind = kindUnlisted r } ≡ good x ⌝ }
+    ensures { record { kind = kind_unlisted result } ≡ good x }
 { x }
 // the cases First and Second are merged
 pub fn map_numerals(x: u8) -> Kind
-    ensures { λ r. ⌜ kindNumerals r ≡ good x ⌝ }
+    ensures { kind_numerals result ≡ good x }
 { x }
 // the cases First and Second are merged
 pub fn map_alias(x: u8) -> Kind
-    ensures { λ r. ⌜ kindAlias r ≡ good x ⌝ }
+    ensures { kind_alias result ≡ good x }
 { x }
 // the pattern zero is no variable
 pub fn map_literal(x: u8) -> Read
-    ensures { λ r. ⌜ readLiteral r ≡ good x ⌝ }
+    ensures { read_literal result ≡ good x }
 { x }
-// a clause of `kindHidden` is not read
+// a clause of `kind_hidden` is not read
 pub fn map_hidden(x: u8) -> Kind
-    ensures { λ r. ⌜ kindHidden r ≡ good x ⌝ }
+    ensures { kind_hidden result ≡ good x }
 { x }
 // what `w: Within<'a>` lends is not read
 pub fn lent_within<'a>(w: Within<'a>) -> u8
-    ensures { λ r. ⌜ r ≡ good 1 ⌝ }
+    ensures { result ≡ good 1 }
 { 1 }
 // what `w: (&mut [u8], u8)` lends is not read
 pub fn lent_in_tuple(w: (&mut [u8], u8)) { }
@@ -334,51 +365,51 @@ pub fn lent_behind(w: &&mut [u8]) { }
 pub fn pointer(w: *mut u8) { }
 // the result .text is left unsaid
 pub fn map_forgets_field(x: u8) -> Step<'a>
-    ensures { λ r. ⌜ stepForgets r ≡ good x ⌝ }
+    ensures { step_forgets result ≡ good x }
 { x }
 // the result .line is left unsaid
 pub fn map_halves_field(x: u8) -> Step<'a>
-    ensures { λ r. ⌜ stepHalves r ≡ good x ⌝ }
+    ensures { step_halves result ≡ good x }
 { x }
 // the result .Refused.0 .NoPlace.1 is left unsaid
 pub fn map_forgets_value(x: u8) -> Read
-    ensures { λ r. ⌜ readLineOnly r ≡ good x ⌝ }
+    ensures { read_line_only result ≡ good x }
 { x }
 // the result .Refused.0 is left unsaid
 pub fn map_wild_value(x: u8) -> Read
-    ensures { λ r. ⌜ readWild r ≡ good x ⌝ }
+    ensures { read_wild result ≡ good x }
 { x }
 // the cases Blank and Refused TooLong are merged
 pub fn map_merges_below(x: u8) -> Read
-    ensures { λ r. ⌜ readMerged r ≡ good x ⌝ }
+    ensures { read_merged result ≡ good x }
 { x }
 // the cases Second and Third are merged
 pub fn map_wild(x: u8) -> Kind
-    ensures { λ r. ⌜ kindWild r ≡ good x ⌝ }
+    ensures { kind_wild result ≡ good x }
 { x }
 // the cases First and Third are merged
 pub fn map_merges(x: u8) -> Kind
-    ensures { λ r. ⌜ kindMerged r ≡ good x ⌝ }
+    ensures { kind_merged result ≡ good x }
 { x }
-// `kindLacks` has no clause
+// `kind_lacks` has no clause
 pub fn map_lacks_case(x: u8) -> Kind
-    ensures { λ r. ⌜ kindLacks r ≡ good x ⌝ }
+    ensures { kind_lacks result ≡ good x }
 { x }
 // the result .line is left unsaid
 pub fn field_unsaid(x: u8) -> Step<'a>
-    ensures { λ r. ⌜ (readTold (r .read) ≡ good x) × (r .text ≡ good x) ⌝ }
+    ensures { (read_told result.read ≡ good x) × (result.text ≡ good x) }
 { x }
-// the reference is left unsaid: the result .ptr
+// the reference is left unsaid: the result .ref_ptr
 pub fn held_only<'a>(text: &'a [u8]) -> &'a [u8]
-    ensures { λ r. ⌜ now r ≡ good (now (text .entry)) ⌝ }
+    ensures { result.now ≡ good text.now }
 { text }
-// the reference is left unsaid: the result .text .ptr
+// the reference is left unsaid: the result .text .ref_ptr
 pub fn held_only_in_field(x: u8) -> Step<'a>
-    ensures { λ r. ⌜ (readTold (r .read) ≡ good x) × ((r .line ≡ good x) × (now (r .text) ≡ good x)) ⌝ }
+    ensures { (read_told result.read ≡ good x) × ((result.line ≡ good x) × (result.text.now ≡ good x)) }
 { x }
 // the result .now is left unsaid
 pub fn points_only<'a>(text: &'a [u8]) -> &'a [u8]
-    ensures { λ r. ⌜ points r ≡ good (text .entry) ⌝ }
+    ensures { points result ≡ good text.entry }
 { text }
 """,
 }
@@ -389,15 +420,68 @@ FILES = [
     ('type Bytes<\'a> = &\'a mut [u8];', 'a type has another name'),
     ('trait T { fn f(&self); }', 'a trait'),
     ('impl T for Z { fn f(&self) {} }', 'a trait'),
-    ('#[no_mangle]\nextern "C" fn f() {}', 'an export that is not pub'),
+    ('#[unsafe(no_mangle)]\nextern "C" fn f() {}', 'an export that is not pub'),
+    ('#[unsafe(no_mangle)]\npub extern "C" fn f() {}', None),
+    ('#[derive(Clone, Copy)]\npub struct S { }', None),
+    ('macro_rules! m { () => { pub fn f() {} } }', 'a macro'),
     ('/* */ pub fn f() {}', 'a block comment'),
     ('pub default fn f() {}', 'a public function of a form that is not read'),
 ]
 
 MADE_UP_MAPS = {f'made.{module}.{name}' for module in ('Maps', 'Other') for name in re.findall(r'abbrev pub (\w+)', MADE_UP[f'crates/made/specs/{module}.antt'])}
-MADE_UP_MAPS -= {'made.Maps.kindUnlisted'}
+MADE_UP_MAPS -= {'made.Maps.kind_unlisted'}
+
+SHARED = {
+    'crates/shared/src/lib.rt': """
+pub fn same(x: u8) -> u8
+    ensures { result ≡ good x }
+{ x }
+pub fn asked(x: u8) -> u8
+    ensures { result ≡ good x }
+{ x }
+pub fn forgotten(x: u8) -> u8
+    ensures { result ≡ good x }
+{ x }
+pub fn weaker(x: u8, t: &mut [u8]) -> u8
+    ensures value { result ≡ good x }
+    ensures t_after { t.new ≡ good x }
+{ x }
+pub fn wider(x: u8) -> u8
+    ensures { result ≡ good x }
+{ x }
+fn inner(x: u8) -> u8
+{ x }
+""",
+    'crates/shared_c/src/lib.rt': """
+#[unsafe(no_mangle)]
+pub extern "C" fn same(x: u8) -> u8
+    ensures {
+        result ≡ good x
+    }
+{ shared::same(x) }
+#[unsafe(no_mangle)]
+pub extern "C" fn asked(x: u8) -> u8
+    requires { x < 3 }
+    ensures { result ≡ good x }
+{ shared::asked(x) }
+#[unsafe(no_mangle)]
+pub extern "C" fn weaker(x: u8, t: &mut [u8]) -> u8
+    ensures { result ≡ good x }
+{ shared::weaker(x, t) }
+#[unsafe(no_mangle)]
+pub extern "C" fn wider(x: u8) -> u16
+    ensures { result ≡ good x }
+{ shared::wider(x) }
+#[unsafe(no_mangle)]
+pub extern "C" fn other(x: u8) -> u8
+    ensures { result ≡ good x }
+{ x }
+""",
+}
+EXPORTED = ['asked', 'forgotten', 'other', 'weaker', 'wider']
 
 ORDERS = [
+    ('below:\npart: below\nlibrary staticlib: part below\nprogram: part below\n', ['library']),
     ('below:\npart: below\nprogram: part below\n', []),
     ('part:\nlibrary: part\nprogram: library part\n', ['library']),
     ('part:\nlibrary:\nprogram: library\n', ['part']),
