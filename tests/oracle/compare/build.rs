@@ -1,4 +1,4 @@
-// Links the static library that `rt staticlib ola_c` writes; OLA_LIB names its folder.
+// Links the static library that tests/library builds; OLA_LIB names its folder.
 fn main() {
     let folder = std::env::var("OLA_LIB").expect("OLA_LIB: the folder of libola_c.a");
     println!("cargo:rustc-link-search=native={folder}");
