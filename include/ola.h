@@ -1,4 +1,4 @@
-/* The Ola assembler and bytecode reader for C and other languages: target/staticlib/libola_c.a, which `rt staticlib ola_c` writes.
+/* The Ola assembler and bytecode reader for C and other languages: target/staticlib/libola_c.a, which tests/library writes.
  *
  * Every function but ola_version, ola_label_name and ola_meter_open answers a struct whose first field is a refusal (of ola_meter_build the first field of
  * its assembly): 0 means accepted, 1 to 26 are the refusals of the scope document and of the requests after it, 255, which is this interface's own, an
