@@ -1,5 +1,6 @@
 // Operands and rows of a source: assembler/src/operands.rs and assembler/src/asm.rs.
 #![tactic(auto)]
+
 ghost use Rattle.std.specs.Prelude.{◌≡◌};
 ghost use Rattle.asm.specs.Rows.{instruction_row};
 ghost use Rattle.asm.specs.Survey.{row_count};

@@ -10,7 +10,6 @@ use Rattle.vm_hardware.specs.declared.OlaSpecialRegister.TheVariants.{PC, PSP}
 use Rattle.vm_operands.specs.Numbers.{immediate}
 use Rattle.vm_operands.specs.declared.OlaOperand.TheVariants.{Empty, ImmediateOperand, RegisterOperand, RegisterWithOffset, RegisterWithFactor, SpecialReg}
 use Rattle.program.specs.Instructions.{made}
-use Rattle.program.specs.declared.BinaryInstruction.{BinaryInstruction}
 use Rattle.ola_places.specs.Places.{place_in, instruction_in, a_place, instruction_out}
 use Rattle.ola_places.specs.declared.OlaPlace.{OlaPlace}
 use Rattle.ola_places.specs.declared.OlaInstruction.{OlaInstruction}

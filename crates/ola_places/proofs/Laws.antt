@@ -28,7 +28,6 @@ use Rattle.ola_places.specs.declared.OlaPlace.{OlaPlace}
 use Rattle.ola_places.specs.declared.OlaInstruction.{OlaInstruction}
 use Rattle.ola_places.specs.declared.PlaceNamed.{PlaceNamed}
 use Rattle.ola_places.specs.declared.PlaceNamed.TheVariants.{Is as IsPlace, Nothing as NoPlace}
-use Rattle.ola_places.specs.declared.InstructionNamed.{InstructionNamed}
 use Rattle.ola_places.specs.declared.InstructionNamed.TheVariants.{Is, Nothing}
 
 -- ---- a place taken

@@ -1,7 +1,6 @@
 -- Instructions as numbers: what a C caller gives and gets. These conventions stand in no paper of the customer's; they are the C header's.
 use Rattle.std.specs.Prelude.{ℕ, cond, eqb, ltb, get_or}
 use Rattle.vm_opcodes.specs.Operations.{operations, index_of}
-use Rattle.vm_opcodes.specs.declared.OlaOpcode.{OlaOpcode}
 use Rattle.vm_opcodes.specs.declared.OlaOpcode.TheVariants.{ADD}
 use Rattle.vm_opcodes.specs.declared.OpcodeFound.{OpcodeFound}
 use Rattle.vm_opcodes.specs.declared.OpcodeFound.TheVariants.{Is as IsOpcode, Nothing as NoOpcode}

@@ -1,6 +1,7 @@
 // Instructions as C structs, given and taken: nothing but conversions. A content is a number (0 empty, 1 number, 2 register, 3 register with
 // offset, 4 register with factor, 5 special register), an operation its place in the order of OlaOpcode, a register its number, pc 0 and psp 1.
 #![tactic(auto)]
+
 ghost use Rattle.std.specs.Prelude.{◌≡◌};
 ghost use Rattle.vm_hardware.specs.Registers.{register_index};
 ghost use Rattle.ola_places.specs.Places.{operation_named, register_named, special_named, with_register, special_number, place_in, place_out, instruction_in, instruction_out};

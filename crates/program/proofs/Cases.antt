@@ -6,7 +6,7 @@ use mathlib.Core.List.{List, [], ◌∷◌, map}
 use Rattle.text.specs.Bytes.{bytes}
 use Rattle.text.specs.Answer.{Answer, ok, refused, ◌>>=◌, ◌>>◌, refuse_if, refuse_at, on_ok}
 use Rattle.text_write.specs.Digits.{digits_of, digit_count}
-use Rattle.vm_opcodes.specs.declared.OlaOpcode.TheVariants.{ADD, MUL, MOV, JMP, CJMP, RET, MLOAD, MSTORE, END, RC, ASSERT, NOT, TLOAD, TSTORE, SCCALL, EVENT}
+use Rattle.vm_opcodes.specs.declared.OlaOpcode.TheVariants.{ADD, MOV, JMP, CJMP, RET, MLOAD, MSTORE, END, RC, ASSERT, NOT, TLOAD, EVENT}
 use Rattle.vm_hardware.specs.declared.OlaRegister.TheVariants.{R0, R1, R2, R3, R9}
 use Rattle.vm_hardware.specs.declared.OlaSpecialRegister.TheVariants.{PC, PSP}
 use Rattle.vm_hardware.specs.declared.Place.TheVariants.{Op0, Op1, Dst}

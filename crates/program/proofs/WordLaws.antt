@@ -1,7 +1,6 @@
 -- A first word is a sum of fields, each below the next one's unit, so each field of the instruction is found in it, whatever its places hold.
 use Prim.Native.Nat.{ℕ, ◌+◌, ◌-◌, ◌*◌, ◌/◌, ◌%◌, ◌^◌, ◌<◌}
 use mathlib.Core.Path.{◌≡◌, refl, sym, ap, ap₂, ◌∙◌, fun_ext}
-use mathlib.Core.List.{map}
 use mathlib.Core.Bool.{Bool, true, false, ◌||◌, cond, or_assoc}
 use mathlib.Core.Option.{Option, none, some}
 use native.Mathlib.Nat.{mul_comm, zero-mul}

@@ -2,7 +2,7 @@
 use Rattle.std.specs.Prelude.{ℕ, ◌+◌, ◌^◌, List, [], ◌∷◌, ◌++◌, map, Bool, true, false, not, ◌||◌, cond, take}
 use Rattle.std.proofs.Math.Option.{Option, none, some}
 use Rattle.text.specs.Lists.{total}
-use Rattle.text.specs.Answer.{Answer, ok, refused, ◌>>=◌, ◌>>◌, refuse_if, refuse_at}
+use Rattle.text.specs.Answer.{Answer, ok, ◌>>◌, refuse_if, refuse_at}
 use Rattle.vm_opcodes.specs.Operations.{operation_bit}
 use Rattle.vm_opcodes.specs.declared.OlaOpcode.{OlaOpcode}
 use Rattle.vm_hardware.specs.Registers.{register_bit}

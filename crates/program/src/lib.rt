@@ -1,5 +1,6 @@
 // Instructions, their words, bytecode text and listing rows: core/src/program/binary_program.rs.
 #![tactic(auto)]
+
 ghost use Rattle.std.specs.Prelude.{◌≡◌};
 ghost use Rattle.program.specs.Instructions.{made};
 

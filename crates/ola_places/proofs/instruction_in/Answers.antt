@@ -1,6 +1,5 @@
 -- `instruction_in` meets its contract.
 use Rattle.ola_places.proofs.Laws.{instruction_laws}
-use borrow.Author.Rules.{rules}
 use Rattle.ola_places.proofs.instruction_in.Goals as goal
 
 pub returns-in_default : goal.returns-in_default

@@ -1,6 +1,5 @@
 -- `place_in` meets its contract.
 use Rattle.ola_places.proofs.Laws.{place_laws}
-use borrow.Author.Rules.{rules}
 use Rattle.ola_places.proofs.place_in.Goals as goal
 
 pub returns-then-content-eq0 : goal.returns-then-content-eq0
