@@ -1,10 +1,12 @@
 // Assembling over a table of entries, called on document 01's printing source: a local table is lent, and its third entry's name and address are printed.
+#![tactic(auto)]
+
 ghost use Rattle.std.specs.Prelude.{◌≡◌};
 ghost use Rattle.relocate.specs.Columns.{table_left};
 ghost use Rattle.calls_entries.specs.Table.{blanks, third};
 
-use libc::STDOUT_FILENO;
 use relocate::{LabelEntry, WordAddress};
+use std::io;
 
 const SOURCE: [u8; 46] = *b"f:\nret\nmain:\nmov r1 -1\ncall f\n.PROPHET0_0:\nend";
 
@@ -26,13 +28,12 @@ fn third_entry(source: &[u8], prophets: &[u8], words: &mut [u64], hosts: &mut [u
     table[2]
 }
 
-fn main() {
+fn main(rt: HostRuntime) -> io::Result<()> {
     let mut words = [0u64; 8];
     let mut hosts = [0u64; 2];
     let entry = third_entry(&SOURCE, &PROPHETS, &mut words, &mut hosts);
-    io::write_all(STDOUT_FILENO, relocate_names::label_name(&SOURCE, entry));
-    io::write_all(STDOUT_FILENO, b" ");
+    rt.write_all(relocate_names::label_name(&SOURCE, entry))?;
+    rt.write_all(b" ")?;
     let address = entry.address;
-    io::print_decimal(STDOUT_FILENO, address.0);
-    io::write_all(STDOUT_FILENO, b"\n");
+    rt.println(address.0)
 }

@@ -1,9 +1,11 @@
 // Opens a bytecode of one instruction and asks twice for the next: that instruction, then none left.
+#![tactic(auto)]
+
 ghost use Rattle.std.specs.Prelude.{◌≡◌};
 ghost use Rattle.calls_opened.specs.Answers.{answers_form, answers_of};
 
 use decoder::{Found, NextRefusal, Opening};
-use libc::STDOUT_FILENO;
+use std::io;
 
 // What opening a text and two calls of next answer.
 #[derive(Clone, Copy)]
@@ -28,48 +30,36 @@ fn two_calls(text: &[u8]) -> Answers
 }
 
 // One line for what opening answered.
-fn print_opening(opening: Opening) {
+fn print_opening(rt: &impl Print, opening: Opening) -> io::Result<()> {
     match opening {
-        Opening::Accepted => {
-            io::write_all(STDOUT_FILENO, b"opened\n");
-        }
-        Opening::Refused(refusal) => {
-            io::write_all(STDOUT_FILENO, b"refused\n");
-        }
+        Opening::Accepted => rt.write_all(b"opened\n"),
+        Opening::Refused(refusal) => rt.write_all(b"refused\n"),
     }
 }
 
 // One line for why there is no instruction.
-fn print_refusal(refusal: NextRefusal) {
+fn print_refusal(rt: &impl Print, refusal: NextRefusal) -> io::Result<()> {
     match refusal {
-        NextRefusal::Open(why) => {
-            io::write_all(STDOUT_FILENO, b"refused\n");
-        }
-        NextRefusal::NoneLeft => {
-            io::write_all(STDOUT_FILENO, b"none left\n");
-        }
+        NextRefusal::Open(why) => rt.write_all(b"refused\n"),
+        NextRefusal::NoneLeft => rt.write_all(b"none left\n"),
     }
 }
 
 // One line for what a call answered.
-fn print_found(found: Found) {
+fn print_found(rt: &impl Print, found: Found) -> io::Result<()> {
     match found {
-        Found::Is(instruction) => {
-            io::write_all(STDOUT_FILENO, b"an instruction\n");
-        }
-        Found::Refused(refusal) => {
-            print_refusal(refusal);
-        }
+        Found::Is(instruction) => rt.write_all(b"an instruction\n"),
+        Found::Refused(refusal) => print_refusal(rt, refusal),
     }
 }
 
-fn main() {
+fn main(rt: HostRuntime) -> io::Result<()> {
     let text = *b"0x4000000001000000\n10";
     let answers = two_calls(&text);
     let opening = answers.opening;
     let first = answers.first;
     let second = answers.second;
-    print_opening(opening);
-    print_found(first);
-    print_found(second);
+    print_opening(&rt, opening)?;
+    print_found(&rt, first)?;
+    print_found(&rt, second)
 }

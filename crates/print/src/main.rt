@@ -1,17 +1,17 @@
 // The printing program: reads a source on standard input, and prints the position and the text of each of its words, or why it is refused.
-use encoder_report::Printed;
-use libc::{STDIN_FILENO, STDOUT_FILENO};
+#![tactic(auto)]
 
-fn main() {
+use encoder_report::Printed;
+use std::io;
+
+fn main(rt: HostRuntime) -> io::Result<()> {
     // One byte more than a source may have, so that a longer one is seen.
     let mut source = [0u8; 4097];
-    let n = io::read_full(STDIN_FILENO, &mut source);
+    let n = input::read_full(&mut rt.stdin(), &mut source)?;
     let mut text = [0u8; 65536];
     let printed = encoder_print::print_source(&source[..n], &mut text);
     match printed {
-        Printed::Is(m) => {
-            io::write_all(STDOUT_FILENO, &text[..m]);
-        }
-        Printed::TextTooShort => {}
+        Printed::Is(m) => rt.write_all(&text[..m]),
+        Printed::TextTooShort => Ok(()),
     }
 }

@@ -3,12 +3,17 @@
 // byte stand for N of that byte. A line that begins with # is a comment. Prints for each file its name, each line that differs, how many cases it
 // has and how many differ, how many are accepted, and how many cases of each refusal agree. A line that cannot be read differs.
 // The port's answer is written as the line says its own, but for escapes, and the two are compared byte by byte. One that does not fit differs.
+#![tactic(auto)]
+
 mod assembling;
 
-use libc::STDOUT_FILENO;
 use replay_lines::answers::{Answer, is_said};
 use replay_lines::fields::{SPACE, TAB, count_of, mark_place, part, parted, start_of, unescape};
 use replay_lines::{answers, reading};
+use std::env::{Env, FillError};
+use std::io;
+use std::io::{Read, Write};
+use std::rt::Files;
 
 // Where the tally counts the cases that differ, and all cases. One that agrees is counted at its refusal, at 0 where it is accepted.
 const DIFFERS: u64 = 99;
@@ -84,9 +89,9 @@ fn run_case(line: &[u8]) -> u64 {
 }
 
 // Prints some bytes and a number.
-fn print_count(before: &[u8], n: u64) {
-    io::write_all(STDOUT_FILENO, before);
-    io::print_decimal(STDOUT_FILENO, n);
+fn print_count(rt: &impl Print, before: &[u8], n: u64) -> io::Result<()> {
+    rt.write_all(before)?;
+    rt.print(n)
 }
 
 // The tally with one more at a place.
@@ -101,22 +106,22 @@ fn count_at(tally: Tally, place: u64) -> Tally {
 }
 
 // Runs a line's case, unless it is a comment, and counts it.
-fn run_line(line: &[u8], number: u64, tally: Tally) -> Tally {
+fn run_line(rt: &impl Print, line: &[u8], number: u64, tally: Tally) -> io::Result<Tally> {
     if line.len() != 0 {
         if line[0] == b'#' {
-            return tally;
+            return Ok(tally);
         }
     }
     let place = run_case(line);
     if place == DIFFERS {
-        print_count(b"line ", number);
-        io::write_all(STDOUT_FILENO, b" differs\n");
+        print_count(rt, b"line ", number)?;
+        rt.write_all(b" differs\n")?;
     }
-    count_at(count_at(tally, place), CASES)
+    Ok(count_at(count_at(tally, place), CASES))
 }
 
 // Runs the cases of a file and counts them.
-fn run_lines(file: &[u8]) -> Tally {
+fn run_lines(rt: &impl Print, file: &[u8]) -> io::Result<Tally> {
     let counts = [0u64; 100];
     let mut tally = Tally { counts };
     let mut at: usize = 0;
@@ -124,64 +129,70 @@ fn run_lines(file: &[u8]) -> Tally {
     while at < file.len() {
         let end = mark_place(file, at, b'\n');
         if end < at {
-            return tally;
+            return Ok(tally);
         }
-        tally = run_line(part(file, at, end), number, tally);
+        tally = run_line(rt, part(file, at, end), number, tally)?;
         at = end + 1;
         number = (number % 1000000) + 1;
     }
-    tally
+    Ok(tally)
 }
 
 // Prints how many cases of each refusal agree.
-fn print_refusals(counts: [u64; 100]) {
+fn print_refusals(rt: &impl Print, counts: [u64; 100]) -> io::Result<()> {
     let mut i: usize = 1;
     while i < 26 {
         if counts[i] != 0 {
-            print_count(b"\nrefusal ", i as u64);
-            print_count(b": ", counts[i]);
+            print_count(rt, b"\nrefusal ", i as u64)?;
+            print_count(rt, b": ", counts[i])?;
         }
         i += 1;
     }
-    io::write_all(STDOUT_FILENO, b"\n");
+    rt.write_all(b"\n")
 }
 
 // Prints the counts.
-fn print_tally(tally: Tally) {
+fn print_tally(rt: &impl Print, tally: Tally) -> io::Result<()> {
     let counts = tally.counts;
-    print_count(b"", counts[98]);
-    print_count(b" cases, ", counts[99]);
-    print_count(b" differ\naccepted: ", counts[0]);
-    print_refusals(counts);
+    print_count(rt, b"", counts[98])?;
+    print_count(rt, b" cases, ", counts[99])?;
+    print_count(rt, b" differ\naccepted: ", counts[0])?;
+    print_refusals(rt, counts)
 }
 
-// Runs the cases of the file that a descriptor reads, and prints the counts.
-fn run_file(fd: i32) {
+// Runs the cases of the file that a reader gives, and prints the counts.
+fn run_file<R: Read>(rt: &impl Print, from: &mut R) -> io::Result<()> {
     let mut file = [0u8; 262144];
-    let n = io::read_full(fd, &mut file);
-    print_tally(run_lines(part(&file, 0, n)));
+    let n = input::read_full(from, &mut file)?;
+    let tally = run_lines(rt, part(&file, 0, n))?;
+    print_tally(rt, tally)
 }
 
-// Prints a file's name and what its cases come to.
-fn run_named(name: &[u8]) {
-    let fd = os::open_read(name);
-    if fd < 0 {
-        os::fail(name);
-        return;
+// Prints a file's name and what its cases come to, or, to the errors, why it does not open.
+fn run_named<W: Write>(rt: &(impl Files + Print), errors: &mut W, name: &[u8]) -> io::Result<()> {
+    match input::open_read(rt, name) {
+        Ok(mut file) => {
+            rt.write_all(name)?;
+            rt.write_all(b"\n")?;
+            run_file(rt, &mut file)
+        }
+        Err(error) => input::fail(errors, name, error),
     }
-    io::write_all(STDOUT_FILENO, name);
-    io::write_all(STDOUT_FILENO, b"\n");
-    run_file(fd);
-    libc::close(fd);
 }
 
-fn main() {
-    let count = os::arg_count();
-    let mut i: usize = 1;
-    while i < count {
+// Runs each file that an argument names. An argument of more than 64 bytes counts as an empty one, which names no file.
+fn run_arguments<W: Write>(rt: &(impl Env + Files + Print), errors: &mut W) -> io::Result<()> {
+    for i in 1..usize::MAX {
         let mut name = [0u8; 64];
-        let n = os::arg(i, &mut name);
-        run_named(&name[..n]);
-        i += 1;
+        match rt.arg(i, &mut name) {
+            Ok(n) => run_named(rt, errors, &name[..n])?,
+            Err(FillError::TooLong) => run_named(rt, errors, b"")?,
+            Err(FillError::NotPresent) => return Ok(()),
+        }
     }
+    Ok(())
+}
+
+fn main(rt: HostRuntime) -> io::Result<()> {
+    run_arguments(&rt, &mut rt.stderr())
 }
