@@ -1,11 +1,9 @@
--- `pieces::print_row` meets its contract.
-use Prim.Native.Nat.{◌-◌, ◌≤◌}
-use lib.ListN.{length}
-use Rattle.pieces.proofs.Laws.{piece_laws}
+-- The place stands within the text.
+use Rattle.std.proofs.Common.{length, ◌-◌, ◌≤◌}
 use Rattle.pieces.proofs.print_row.Given as goal
 
 abbrev pub invariant-loop-at : goal.invariant-loop-at
-invariant-loop-at l = l.at ≤ length l.row
+invariant-loop-at g l = l.at ≤ length l.row
 
 abbrev pub decreases-loop-at : goal.decreases-loop-at
-decreases-loop-at l = length l.row - l.at
+decreases-loop-at g l = length l.row - l.at
