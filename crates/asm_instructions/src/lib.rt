@@ -1,6 +1,7 @@
 // An instruction row made from its operation and operands, `split_ola_asm_pieces` of assembler/src/asm.rs: one function for each number of operands.
 // They go to the places of the operation's row, where it has as many.
 #![tactic(auto)]
+
 ghost use Rattle.std.specs.Prelude.{◌≡◌, [], ◌∷◌};
 ghost use Rattle.std.proofs.Math.Option.{some};
 ghost use Rattle.vm_opcodes.specs.declared.OpcodeFound.TheVariants.{Is};

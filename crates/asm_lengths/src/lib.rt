@@ -1,5 +1,6 @@
 // The lengths of an instruction row: the counted one, `binary_length` of assembler/src/asm.rs, and the words that it becomes.
 #![tactic(auto)]
+
 ghost use Rattle.std.specs.Prelude.{◌≡◌};
 ghost use Rattle.asm.specs.Rows.{counted, counted_length};
 ghost use Rattle.asm.specs.Survey.{is_memory_row, takes_word, word_count};

@@ -1,6 +1,7 @@
 // What operand shapes and label rows are made of: a byte at a place, digits, a pair of digits, a name, a register at a place, a number.
 // Every function takes a piece or a part of one and requires nothing of it.
 #![tactic(auto)]
+
 ghost use Rattle.std.specs.Prelude.{◌≡◌, cond};
 ghost use Rattle.text_read.specs.Numerals.{decimal};
 ghost use Rattle.vm_operands.specs.Numbers.{order, signed};

@@ -5,13 +5,13 @@ use mathlib.Core.Path.{◌≡◌, refl}
 use mathlib.Core.List.{List, [], ◌∷◌, map}
 use borrow.Author.Tests.{lt-ltb}
 use lib.ListN.{length}
-use Rattle.text.specs.Bytes.{bytes, is_digit, same}
+use Rattle.text.specs.Bytes.{bytes, is_digit}
 use Rattle.text.specs.Scan.{scan, all, parts}
 use Rattle.text.specs.Lines.{lines, ended}
 use Rattle.text.specs.Answer.{Answer, ok, refused, ◌>>=◌, ◌>>◌, refuse_if, refuse_at}
 use Rattle.text_read.specs.Numerals.{digit_value, value_from, numeral, unprefixed, hexadecimal}
 use Rattle.vm_opcodes.specs.Operations.{operations, first_operation}
-use Rattle.vm_opcodes.specs.declared.OlaOpcode.TheVariants.{ADD, MOV, CALL, RET, MLOAD, MSTORE, NOT, END}
+use Rattle.vm_opcodes.specs.declared.OlaOpcode.TheVariants.{ADD, MOV, CALL, RET, MLOAD, MSTORE, NOT}
 use Rattle.vm_hardware.specs.Registers.{registers, first_register}
 use Rattle.vm_hardware.specs.declared.OlaRegister.TheVariants.{R0, R1, R2, R3}
 use Rattle.vm_hardware.specs.declared.OlaSpecialRegister.TheVariants.{PC, PSP}

@@ -1,5 +1,5 @@
 -- Opening bytecode, next instruction, and a run of calls; the number and detail of each refusal.
-use Rattle.std.specs.Prelude.{ℕ, zero, suc, ◌+◌, List, [], ◌∷◌, Bool, cond, ltb, length, drop}
+use Rattle.std.specs.Prelude.{ℕ, zero, suc, ◌+◌, List, [], ◌∷◌, cond, ltb, length, drop}
 use Rattle.text.specs.Lines.{lines}
 use Rattle.text.specs.Answer.{Answer, ok, refused, ◌>>=◌, ◌>>◌, refuse_if, refuse_at}
 use Rattle.program.specs.Groups.{Group}

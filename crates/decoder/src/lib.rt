@@ -1,5 +1,6 @@
 // Bytecode read back into instructions: core/src/program/decoder.rs.
 #![tactic(auto)]
+
 use program::BinaryInstruction;
 
 // The most bytes that a bytecode may have.

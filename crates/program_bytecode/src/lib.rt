@@ -1,5 +1,6 @@
 // The bytecode text of words: what `from_instructions` of core/src/program/binary_program.rs joins.
 #![tactic(auto)]
+
 ghost use Rattle.std.specs.Prelude.{◌≡◌, false, true, ◌+◌, ◌≤◌, leb, length};
 ghost use Rattle.std.proofs.lemmas.List.Edits.{sets};
 ghost use Rattle.text_write.specs.Put.{put_count, put_into};

@@ -1,5 +1,6 @@
 // The words of one instruction: the halves of `encode` of core/src/program/binary_program.rs that write, and refuse nothing.
 #![tactic(auto)]
+
 ghost use Rattle.std.specs.Prelude.{◌≡◌};
 ghost use Rattle.program.specs.Instructions.{carried, register_in};
 ghost use Rattle.program.specs.Words.{register_bits, number_bit, first_word, second_word, second_of};

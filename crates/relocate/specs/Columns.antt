@@ -7,7 +7,6 @@ use Rattle.asm.specs.declared.AsmRow.{AsmRow}
 use Rattle.relocate.specs.Labels.{prophet_kind, table_of}
 use Rattle.relocate.specs.Prophets.{listed_labels}
 use Rattle.relocate.specs.Relocate.{relocate_number, relocate_detail, tabled}
-use Rattle.relocate.specs.declared.WordAddress.{WordAddress}
 use Rattle.relocate.specs.declared.LabelEntry.{LabelEntry}
 use Rattle.relocate.specs.declared.AddressFound.{AddressFound}
 use Rattle.relocate.specs.declared.AddressFound.TheVariants.{At, Nothing}

@@ -1,5 +1,5 @@
 -- "Label table": the instruction that each label row marks, addresses, and the row that holds a name.
-use Rattle.std.specs.Prelude.{ℕ, zero, suc, List, [], ◌∷◌, map, Bool, not, ◌&&◌, cond, eqb, length, take}
+use Rattle.std.specs.Prelude.{ℕ, zero, suc, List, [], ◌∷◌, map, Bool, not, ◌&&◌, cond, eqb, take}
 use Rattle.std.proofs.Math.Option.{Option, none, some}
 use Rattle.text.specs.Bytes.{same}
 use Rattle.text.specs.Lists.{total}

@@ -1,5 +1,5 @@
 -- Refusals 1 to 7 by one survey, and the sorted rows line by line: main's stretch of the source, what stands before it, what stands after it.
-use Rattle.std.specs.Prelude.{ℕ, ◌+◌, ◌-◌, List, [], ◌∷◌, ◌++◌, Bool, ◌&&◌, cond, eqb, leb, ltb, length, take}
+use Rattle.std.specs.Prelude.{ℕ, ◌+◌, ◌-◌, List, [], ◌∷◌, ◌++◌, ◌&&◌, cond, eqb, leb, ltb, length, take}
 use Rattle.text.specs.Answer.{Answer, ok, refused, ◌>>=◌, ◌>>◌, refuse_if, refuse_at}
 use Rattle.asm.specs.Parts.{Part, pieces_after}
 use Rattle.asm.specs.Rows.{row_of, row_at, instructions}

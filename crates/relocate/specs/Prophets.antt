@@ -1,5 +1,5 @@
 -- The prophet list: its lines, each prophet's host, and the prophets kept.
-use Rattle.std.specs.Prelude.{ℕ, suc, List, [], ◌∷◌, map, Bool, true, false, ◌||◌, cond, eqb, ltb, length}
+use Rattle.std.specs.Prelude.{ℕ, suc, List, [], ◌∷◌, Bool, false, ◌||◌, cond, eqb, ltb, length}
 use Rattle.std.proofs.Math.Option.{Option, none, some}
 use Rattle.text.specs.Bytes.{bytes, same}
 use Rattle.text.specs.Scan.{parts, is_empty}

@@ -1,8 +1,8 @@
 -- "When an operation declines", refusals 1 to 9 in their order, and the number and detail of each.
-use Rattle.std.specs.Prelude.{ℕ, suc, List, [], ◌∷◌, Bool, cond, eqb, ltb, length}
+use Rattle.std.specs.Prelude.{ℕ, suc, List, [], ◌∷◌, cond, eqb, ltb, length}
 use Rattle.std.proofs.Math.Option.{Option, none, some}
 use Rattle.text.specs.Scan.{is_empty}
-use Rattle.text.specs.Answer.{Answer, ok, refused, ◌>>=◌, ◌>>◌, refuse_if, refuse_at}
+use Rattle.text.specs.Answer.{Answer, ok, ◌>>=◌, ◌>>◌, refuse_if, refuse_at}
 use Rattle.asm.specs.Parts.{source_pieces}
 use Rattle.asm.specs.Rows.{read_rows}
 use Rattle.asm.specs.declared.AsmRow.{AsmRow}

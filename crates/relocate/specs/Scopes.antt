@@ -1,9 +1,8 @@
 -- "Scopes": "A scope runs from one call label to the next; rows before the first have the empty label."
-use Rattle.std.specs.Prelude.{ℕ, List, [], ◌∷◌, ◌++◌, Bool, true, false, not, cond, length}
+use Rattle.std.specs.Prelude.{ℕ, List, [], ◌∷◌, ◌++◌, Bool, not, cond, length}
 use Rattle.text.specs.Bytes.{bytes, same}
 use Rattle.text.specs.Scan.{is_empty}
 use Rattle.asm.specs.Parts.{name_at}
-use Rattle.asm.specs.declared.OlaAsmInstruction.{OlaAsmInstruction}
 use Rattle.asm.specs.declared.AsmRow.{AsmRow}
 use Rattle.asm.specs.declared.AsmRow.TheVariants.{Instruction, LabelCall, LabelJmp, LabelProphet}
 

@@ -1,5 +1,6 @@
 // Scopes, addresses, the label table and prophets: assembler/src/relocate.rs.
 #![tactic(auto)]
+
 ghost use Rattle.std.specs.Prelude.{◌≡◌};
 ghost use Rattle.relocate.specs.Labels.{word_address};
 

@@ -1,14 +1,15 @@
 -- What the walk by hand of `fill_entries` says of truth values, of numbers, and of a table that is filled up to some entry.
-use mathlib.Core.Path.{◌≡◌, refl, ◌∙◌}
+use mathlib.Core.Path.{◌≡◌, refl, ap, ◌∙◌}
 use mathlib.Core.Bool.{Bool, true, false}
 use Prim.Native.Nat.{ℕ, zero, suc, ◌+◌, ◌-◌, ◌<◌}
 use native.Mathlib.Omega.{arith}
 use mathlib.Core.List.{List}
 use lib.Dec.{T as Holds}
-use lib.ListN.{length, length-set}
+use lib.ListN.{length, set, length-set}
 use Rattle.relocate.specs.declared.LabelEntry.{LabelEntry}
 use Rattle.relocate.specs.declared.Layout.{Layout}
 use Rattle.relocate_entries.specs.declared.Walk.{Walk}
+use Rattle.relocate_entries.specs.declared.LabelStep.{LabelStep}
 use Rattle.relocate_entries.specs.Steps.{label_step, walk_at, entries_filled}
 
 -- ---- truth values and numbers
@@ -46,3 +47,15 @@ at_start s l = refl
 pub none_filled : (s : List ℕ) (l : Layout) (ys : List LabelEntry) → entries_filled s l ys 0 ≡ ys
 unfolding entries_filled
 none_filled s l ys = refl
+
+-- ---- one turn more
+module _ (s : List ℕ) (l : Layout) (i : ℕ) (w : Walk) (r : LabelStep) (e : w ≡ walk_at s l i) (f : r ≡ label_step s l w) where
+  -- how far the walk has come
+  pub walk_more : r.walk ≡ walk_at s l (i + 1)
+  unfolding walk_at
+  walk_more = rw (one_more i) (ap (λ (x : LabelStep). x.walk) (f ∙ ap (label_step s l) e))
+
+  -- and the entry that is filled
+  pub filled_more : (ys t : List LabelEntry) → t ≡ entries_filled s l ys i → set t i r.entry ≡ entries_filled s l ys (i + 1)
+  unfolding entries_filled
+  filled_more ys t g = rw (one_more i, g) (ap (λ (x : LabelStep). set (entries_filled s l ys i) i x.entry) (f ∙ ap (label_step s l) e))

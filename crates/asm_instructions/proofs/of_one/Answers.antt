@@ -1,6 +1,5 @@
 use Rattle.asm.specs.Rows.{arranged}
 use Rattle.asm_instructions.proofs.Laws.{places_laws}
-use borrow.Author.Rules.{rules}
 use Rattle.asm_instructions.proofs.of_one.Goals as goal
 
 pub returns-in-DstOp0Op1 : goal.returns-in-DstOp0Op1

@@ -1,6 +1,5 @@
 -- `hex_numeral` meets its contract.
 use Rattle.asm_shapes.proofs.Laws.{hex_laws}
-use borrow.Author.Rules.{rules}
 use Rattle.asm_shapes.proofs.hex_numeral.Goals as goal
 
 pub returns-then-text-lt3 : goal.returns-then-text-lt3

@@ -1,6 +1,5 @@
 -- `is_digits` meets its contract.
 use Rattle.asm_shapes.proofs.Laws.{digits_laws}
-use borrow.Author.Rules.{rules}
 use Rattle.asm_shapes.proofs.is_digits.Goals as goal
 
 pub returns-then-n-eq0 : goal.returns-then-n-eq0

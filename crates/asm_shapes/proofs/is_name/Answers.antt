@@ -1,6 +1,5 @@
 -- `is_name` meets its contract.
 use Rattle.asm_shapes.proofs.Laws.{name_laws}
-use borrow.Author.Rules.{rules}
 use Rattle.asm_shapes.proofs.is_name.Goals as goal
 
 pub returns-then-k-text : goal.returns-then-k-text

@@ -1,6 +1,5 @@
 -- `is_pair` meets its contract.
 use Rattle.asm_shapes.proofs.Laws.{pair_laws}
-use borrow.Author.Rules.{rules}
 use Rattle.asm_shapes.proofs.is_pair.Goals as goal
 
 pub bounds-text-k : goal.bounds-text-k

@@ -1,6 +1,5 @@
 -- `register_at` meets its contract.
 use Rattle.asm_shapes.proofs.Laws.{register_laws}
-use borrow.Author.Rules.{rules}
 use Rattle.asm_shapes.proofs.register_at.Goals as goal
 
 pub returns-then-n-lt2 : goal.returns-then-n-lt2

@@ -1,6 +1,5 @@
 -- `source_number` meets its contract.
 use Rattle.asm_shapes.proofs.Laws.{number_laws}
-use borrow.Author.Rules.{rules}
 use Rattle.asm_shapes.proofs.source_number.Goals as goal
 
 pub returns-in-Value : goal.returns-in-Value

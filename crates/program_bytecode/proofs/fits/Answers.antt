@@ -1,10 +1,4 @@
 -- `fits` meets its contract.
-use Prim.Native.Nat.{◌+◌, ◌-◌, ◌≤◌}
-use mathlib.Core.Path.{◌≡◌}
-use mathlib.Core.Bool.{true, false}
-use lib.Dec.{eqb}
-use lib.ListN.{length, drop}
-use Rattle.program_bytecode.specs.Left.{left_text}
 use Rattle.program_bytecode.proofs.Laws.{fits_laws}
 use Rattle.program_bytecode.proofs.fits.Goals as goal
 

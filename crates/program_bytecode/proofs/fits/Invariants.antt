@@ -5,7 +5,6 @@ use mathlib.Core.Bool.{true, false}
 use lib.Dec.{eqb}
 use lib.ListN.{length, drop}
 use Rattle.program_bytecode.specs.Left.{left_text}
-use Rattle.program_bytecode.proofs.Laws.{fits_laws}
 use Rattle.program_bytecode.proofs.fits.Given as goal
 
 abbrev pub invariant-loop-i : goal.invariant-loop-i

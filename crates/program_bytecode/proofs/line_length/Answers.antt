@@ -1,6 +1,5 @@
 -- `line_length` meets its contract.
 use Rattle.program_bytecode.proofs.Laws.{length_laws}
-use borrow.Author.Rules.{rules}
 use Rattle.program_bytecode.proofs.line_length.Goals as goal
 
 pub returns-in-Count : goal.returns-in-Count

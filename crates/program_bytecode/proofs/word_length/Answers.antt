@@ -1,6 +1,5 @@
 -- `word_length` meets its contract.
 use Rattle.program_bytecode.proofs.Laws.{length_laws}
-use borrow.Author.Rules.{rules}
 use Rattle.program_bytecode.proofs.word_length.Goals as goal
 
 pub overflow_add-result : goal.overflow_add-result

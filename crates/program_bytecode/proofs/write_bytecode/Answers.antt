@@ -1,6 +1,5 @@
 -- `write_bytecode` meets its contract.
 use Rattle.program_bytecode.proofs.Laws.{bytecode_laws}
-use borrow.Author.Rules.{rules}
 use Rattle.program_bytecode.proofs.write_bytecode.Goals as goal
 
 pub returns-then-not-fits : goal.returns-then-not-fits

@@ -1,6 +1,5 @@
 -- `write_line` meets its contract.
 use Rattle.program_bytecode.proofs.Laws.{write_line_laws}
-use borrow.Author.Rules.{rules}
 use Rattle.program_bytecode.proofs.write_line.Goals as goal
 
 pub overflow_add-result : goal.overflow_add-result

@@ -1,11 +1,4 @@
 -- `write_words` meets its contract.
-use Prim.Native.Nat.{◌+◌, ◌-◌, ◌≤◌}
-use mathlib.Core.Path.{◌≡◌}
-use mathlib.Core.Bool.{true, false}
-use lib.Dec.{eqb}
-use lib.ListN.{length, drop}
-use lib.Seq.{sets}
-use Rattle.program_bytecode.specs.Left.{left_text}
 use Rattle.program_bytecode.proofs.Laws.{words_laws}
 use Rattle.program_bytecode.proofs.write_words.Goals as goal
 

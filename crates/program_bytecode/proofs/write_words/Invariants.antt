@@ -6,7 +6,6 @@ use lib.Dec.{eqb}
 use lib.ListN.{length, drop}
 use lib.Seq.{sets}
 use Rattle.program_bytecode.specs.Left.{left_text}
-use Rattle.program_bytecode.proofs.Laws.{words_laws}
 use Rattle.program_bytecode.proofs.write_words.Given as goal
 
 abbrev pub invariant-loop-i : goal.invariant-loop-i

@@ -1,6 +1,5 @@
 -- `first_word` meets its contract.
 use Rattle.program_words.proofs.Laws.{word_laws, five_fit}
-use borrow.Author.Rules.{rules}
 use Rattle.program_words.proofs.first_word.Goals as goal
 
 pub overflow_add-result : goal.overflow_add-result

@@ -1,0 +1,14 @@
+-- `write_rows` meets its contract.
+use Prim.Native.Nat.{◌+◌, ◌-◌}
+use mathlib.Core.Path.{◌≡◌}
+use lib.ListN.{length}
+use lib.Seq.{sets}
+use Rattle.source_write.specs.Rest.{instructions_from, rows_text}
+use Rattle.source_write.proofs.Laws.{rows_laws}
+use Rattle.source_write.proofs.write_rows.Given as goal
+
+abbrev pub invariant-loop-at : goal.invariant-loop-at
+invariant-loop-at l = (length l.text ≡ length l.initial.text) × (5 + length (rows_text (instructions_from l.bytecode 0)) ≡ l.end + length (rows_text (instructions_from l.bytecode l.at))) × (sets l.initial.text 5 (rows_text (instructions_from l.bytecode 0)) ≡ sets l.text l.end (rows_text (instructions_from l.bytecode l.at)))
+
+abbrev pub decreases-loop-at : goal.decreases-loop-at
+decreases-loop-at l = length l.bytecode - l.at
