@@ -1,5 +1,6 @@
 // Label rows: the three kinds of assembler/src/asm.rs, each ending in a colon.
 #![tactic(auto)]
+
 ghost use Rattle.std.specs.Prelude.{◌≡◌};
 ghost use Rattle.asm.specs.Rows.{is_call_row, is_pair_row, label_row, or_else_row};
 ghost use Rattle.asm.specs.declared.RowRead.TheVariants.{Unreadable};

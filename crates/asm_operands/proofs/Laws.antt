@@ -7,7 +7,6 @@ use native.Mathlib.Omega.{arith}
 use borrow.Author.Tests.{eq-eqb, ne_eqb, eqb-true, ltb-true, ltb-false}
 use lib.Dec.{ltb}
 use lib.ListN.{length, get_or, take, drop, get_or-eq_default}
-use Rattle.text.specs.Bytes.{bytes}
 use Rattle.text.proofs.Laws.{told_not_true, told_not_false, part_slice}
 use Rattle.vm_hardware.specs.declared.OlaRegister.{OlaRegister}
 use Rattle.vm_hardware.specs.declared.RegisterFound.{RegisterFound}
@@ -17,7 +16,7 @@ use Rattle.vm_operands.specs.declared.ImmediateValue.{ImmediateValue}
 use Rattle.vm_operands.specs.declared.ImmediateFound.{ImmediateFound}
 use Rattle.vm_operands.specs.declared.ImmediateFound.TheVariants.{Is as IsNumber, Nothing as NoNumber}
 use Rattle.asm.specs.Parts.{Part}
-use Rattle.asm.specs.Operands.{Shape, byte_is, inner, is_bracketed, is_register_at, register_of_place, is_source_number, source_number, with_number, factored, paired, bare, offset, register, number}
+use Rattle.asm.specs.Operands.{Shape, byte_is, inner, is_bracketed, is_register_at, register_of_place, is_source_number, source_number, with_number, factored, paired, bare, offset}
 use Rattle.asm.specs.declared.OlaAsmOperand.{OlaAsmOperand}
 use Rattle.asm.specs.declared.OlaAsmOperand.TheVariants.{RegisterWithOffset, RegisterWithFactoredRegOffset}
 use Rattle.asm.specs.declared.OperandRead.{OperandRead}

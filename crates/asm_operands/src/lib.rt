@@ -2,6 +2,7 @@
 // Above each stand 01's shape, the file's pattern as it is written there, and what a Point of 02 changed in it. Where the file matches a pattern and then reads
 // its parts, one function does both here. tests/shapes sees to names, order and patterns.
 #![tactic(auto)]
+
 ghost use Rattle.std.specs.Prelude.{◌≡◌};
 ghost use Rattle.asm.specs.Operands.{factored, paired, bare, offset, register, number, label, special, name, operand_of};
 ghost use Rattle.asm_operands.specs.Tried.{tried, anchor_of, second_of};

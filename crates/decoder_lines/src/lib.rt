@@ -1,6 +1,7 @@
 // The lines of a bytecode, parted into instructions: from an offset on, the first word and the second line that stand there, and the instruction
 // that they are.
 #![tactic(auto)]
+
 ghost use Rattle.std.specs.Prelude.{◌≡◌, ◌≤◌, length};
 ghost use Rattle.decoder_words.specs.Decoded.{decoded_numbered};
 ghost use Rattle.decoder_lines.specs.GroupAt.{group_at, group_of};

@@ -1,5 +1,6 @@
 // One instruction from its first word and its second line: `BinaryInstruction::decode` of core/src/program/binary_program.rs.
 #![tactic(auto)]
+
 ghost use Rattle.std.specs.Prelude.{◌≡◌};
 ghost use Rattle.std.proofs.Math.Option.{none, some};
 ghost use Rattle.program.specs.Instructions.{is_memory};

@@ -1,5 +1,6 @@
 // Names resolved, the canonical program and assembling: assembler/src/encoder.rs.
 #![tactic(auto)]
+
 use asm::RowCount;
 use relocate::RelocateRefusal;
 

@@ -1,5 +1,6 @@
 // The reports that the printing program prints, written into a lent text: the words of an accepted source, or a refusal's number and detail.
 #![tactic(auto)]
+
 ghost use Rattle.std.specs.Prelude.{◌≡◌, false, ◌+◌, ◌≤◌, leb, length};
 ghost use Rattle.std.proofs.lemmas.List.Edits.{sets};
 ghost use Rattle.text.specs.Answer.{refused};

@@ -1,6 +1,7 @@
 // What opening and a call of next answer as C structs: refusal 0 means accepted, and on refusal every other number but the detail is 0, but a step's line
 // stays where it was. Nothing but conversions.
 #![tactic(auto)]
+
 ghost use Rattle.std.specs.Prelude.{◌≡◌};
 ghost use Rattle.decoder.specs.Open.{open_number, open_detail};
 ghost use Rattle.decoder.specs.Steps.{open_numbered, found_numbered};

@@ -1,5 +1,6 @@
 // One instruction made words: `encode` of core/src/program/binary_program.rs.
 #![tactic(auto)]
+
 ghost use Rattle.std.specs.Prelude.{◌≡◌};
 ghost use Rattle.program.specs.Instructions.{carried, is_too_large, has_too_large, is_mov};
 ghost use Rattle.program.specs.Words.{rejected_aside, rejected_in_op1, encoded};

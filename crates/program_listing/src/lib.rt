@@ -1,6 +1,7 @@
 // The listing row of one instruction: `get_asm_form_code` of core/src/program/binary_program.rs.
 // A row is put together in a local array and written once, so that a refusal leaves the lent text as it is.
 #![tactic(auto)]
+
 ghost use Rattle.std.specs.Prelude.{◌≡◌, [], ◌∷◌, ◌++◌, ◌+◌, ◌≤◌, ◌<◌, length, take};
 ghost use Rattle.text_write.specs.Digits.{fewest_text};
 ghost use Rattle.vm_mnemonics.specs.Mnemonics.{mnemonic};

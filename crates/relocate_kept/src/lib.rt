@@ -1,5 +1,6 @@
 // How many prophets of a list are kept.
 #![tactic(auto)]
+
 ghost use Rattle.std.specs.Prelude.{◌≡◌, true, ltb, drop};
 ghost use Rattle.text.specs.Scan.{all};
 ghost use Rattle.relocate.specs.Prophets.{is_in, kept_count};

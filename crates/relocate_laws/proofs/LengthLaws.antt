@@ -4,10 +4,9 @@ use mathlib.Core.Path.{◌≡◌, ap, subst, ◌∙◌}
 use mathlib.Core.List.{List, [], ◌∷◌, map}
 use native.Mathlib.Omega.{arith}
 use borrow.Author.Tests.{ltb-false}
-use lib.Dec.{eqb, ltb}
+use lib.Dec.{ltb}
 use lib.ListN.{length}
 use Rattle.text.specs.Lists.{total}
-use Rattle.text.specs.Scan.{is_empty}
 use Rattle.text.specs.Answer.{ok}
 use Rattle.text.specs.All.{All, none_left, one_more}
 use Rattle.text.proofs.AnswerLaws.{not_ok, ok_same, ok_bind, if_passed, at_passed}
@@ -23,7 +22,7 @@ use Rattle.asm.specs.declared.AsmRow.TheVariants.{Instruction, LabelCall, LabelJ
 use Rattle.asm.specs.declared.RowRead.{RowRead}
 use Rattle.asm.specs.declared.RowRead.TheVariants.{Is, Unreadable}
 use Rattle.asm_laws.proofs.LengthLaws.{row_bytes, source_bytes, least_bytes, least_four, BareIsEmpty, row_least, row_bare}
-use Rattle.relocate.specs.Scopes.{sorted_rows, main_count}
+use Rattle.relocate.specs.Scopes.{sorted_rows}
 use Rattle.relocate.specs.Labels.{label_rows, address_of}
 use Rattle.relocate.specs.Relocate.{first_above127, rows_read, sorted_of, tabled}
 use Rattle.relocate_laws.proofs.SortLaws.{sorted_total, sorted_all}

@@ -1,6 +1,7 @@
 // Names in the label table: the row that holds one, and the name of an entry. The table's five columns are lent one by one; it has as many
 // entries as the shortest of them.
 #![tactic(auto)]
+
 ghost use Rattle.std.specs.Prelude.{◌≡◌, min};
 ghost use Rattle.text.specs.Bytes.{same};
 ghost use Rattle.asm.specs.Parts.{name_part, name_at};

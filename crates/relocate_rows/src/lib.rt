@@ -1,6 +1,7 @@
 // The label table row by row: the entry of a row, and how far a walk over the sorted rows has come after it. An address is known when its label is met; a label is mapped
 // where an instruction is still to come, which the counts tell.
 #![tactic(auto)]
+
 ghost use Rattle.std.specs.Prelude.{◌≡◌};
 ghost use Rattle.relocate_rows.specs.Entries.{label_entry, entry_of_row, advanced};
 

@@ -1,5 +1,6 @@
 // Source from bytecode, document 02's Point 7: why it is not written, and what writing it answers.
 #![tactic(auto)]
+
 use decoder::OpenRefusal;
 
 // Why a bytecode's source is not written.

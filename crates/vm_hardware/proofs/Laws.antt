@@ -7,7 +7,7 @@ use Prim.Native.Nat.{ℕ, ◌+◌, ◌-◌, ◌*◌, ◌/◌, ◌%◌, ◌^◌, 
 use native.Mathlib.Nat.{pow-le-pow_right, mod-eq_of_lt, mod-lt, one-mul, mul-one, mul-zero, add-zero, mul-le-mul_left, eq-zero-or-pos}
 use native.Mathlib.Numerals.{add-one}
 use native.Mathlib.Omega.{arith}
-use borrow.Author.Tests.{ltb-true}
+use borrow.Author.Tests.{ltb-true, eq-eqb, ne_eqb}
 use lib.Dec.{eqb, ltb, lit<, lit≤}
 use lib.ListN.{length, get_or, drop, drop_of_length-le}
 use lib.Seq.{drop-cons}
@@ -188,6 +188,22 @@ module _ (table : List (List ℕ)) (t : table ≡ map (λ q. map (register_bit q
     looked b q =
         let d : b < 2 = rw q (mod-lt (w / 2 ^ get_or (get_or table k []) i 0) (lit< tt)) in
         turned (λ r. bit (register_bit p r) w) x c n i s h b d (ap (λ (j : ℕ). eqb (w / 2 ^ j % 2) 1) (sym (shift_at i h)) ∙ ap (λ (j : ℕ). eqb j 1) (sym q)) l m
+
+  -- the same, told one register at a time
+  module _ (x : RegisterFound) (w i : ℕ) (s : x ≡ first_register (λ r. bit (register_bit p r) w) (drop i registers)) (h : i < 10) where
+    same_bit : w / 2 ^ get_or (get_or table k []) i 0 % 2 ≡ w / 2 ^ register_bit p (get_or registers i R0) % 2
+    same_bit = ap (λ (j : ℕ). w / 2 ^ j % 2) (shift_at i h)
+
+    pub found : (names : List OlaRegister) → names ≡ registers → w / 2 ^ get_or (get_or table k []) i 0 % 2 ≡ 1 → IsRegister (get_or names i R0) ≡ x
+    found names n b =
+        ap (λ (l : List OlaRegister). IsRegister (get_or l i R0)) n
+        ∙ first_passes (λ r. bit (register_bit p r) w) x registers i s (omega (arith, registers_long)) (eq-eqb _ 1 (sym same_bit ∙ b))
+
+    pub passed : (w / 2 ^ get_or (get_or table k []) i 0 % 2 ≡ 1 → ⊥) → x ≡ first_register (λ r. bit (register_bit p r) w) (drop (i + 1) registers)
+    passed b = first_fails (λ r. bit (register_bit p r) w) x registers i s (omega (arith, registers_long)) (ne_eqb _ 1 (λ q. b (same_bit ∙ q)))
+
+pub none_left : (p : Place) (x : RegisterFound) (w i : ℕ) → x ≡ first_register (λ r. bit (register_bit p r) w) (drop i registers) → 10 ≤ i → NoRegister ≡ x
+none_left p x w i s h = first_none (λ r. bit (register_bit p r) w) x registers i s (omega (arith, registers_long))
 
 -- a spelling is read as what it was written for
 pub register_of_text : (r : OlaRegister) → register_of (register_text r) ≡ IsRegister r

@@ -1,7 +1,5 @@
 -- `is_call_row` meets its contract.
-use Rattle.asm_shapes.proofs.Laws.{stopped_next}
 use Rattle.asm_labels.proofs.Laws.{call_laws}
-use borrow.Author.Rules.{rules}
 use Rattle.asm_labels.proofs.is_call_row.Goals as goal
 
 pub returns-then-k-eq0 : goal.returns-then-k-eq0

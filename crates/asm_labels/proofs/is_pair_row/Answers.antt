@@ -1,6 +1,5 @@
 -- `is_pair_row` meets its contract.
 use Rattle.asm_labels.proofs.Laws.{pair_laws}
-use borrow.Author.Rules.{rules}
 use Rattle.asm_labels.proofs.is_pair_row.Goals as goal
 
 pub returns-then-last-n : goal.returns-then-last-n

@@ -1,6 +1,5 @@
 -- `label_row` meets its contract.
 use Rattle.asm_labels.proofs.Laws.{label_laws}
-use borrow.Author.Rules.{rules}
 use Rattle.asm_labels.proofs.label_row.Goals as goal
 
 pub returns-then-piece-eq0 : goal.returns-then-piece-eq0

@@ -1,6 +1,5 @@
 -- `anchor` meets its contract.
 use Rattle.asm_operands.proofs.Laws.{anchor_laws}
-use borrow.Author.Rules.{rules}
 use Rattle.asm_operands.proofs.anchor.Goals as goal
 
 pub returns-then-piece-eq0 : goal.returns-then-piece-eq0

@@ -1,6 +1,5 @@
 -- `from_str` meets its contract.
 use Rattle.asm_operands.proofs.FirstLaws.{first_laws}
-use borrow.Author.Rules.{rules}
 use Rattle.asm_operands.proofs.from_str.Goals as goal
 
 pub returns-in-Fits : goal.returns-in-Fits

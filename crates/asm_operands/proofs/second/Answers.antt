@@ -1,6 +1,5 @@
 -- `second` meets its contract.
 use Rattle.asm_operands.proofs.Laws.{second_laws}
-use borrow.Author.Rules.{rules}
 use Rattle.asm_operands.proofs.second.Goals as goal
 
 pub returns-then-not-byte_is : goal.returns-then-not-byte_is

@@ -1,6 +1,5 @@
 -- `try_identifier` meets its contract.
 use Rattle.asm_operands.proofs.OtherLaws.{name_laws}
-use borrow.Author.Rules.{rules}
 use Rattle.asm_operands.proofs.try_identifier.Goals as goal
 
 pub returns-then-not-is_name : goal.returns-then-not-is_name

@@ -1,6 +1,5 @@
 -- `try_immediate_value` meets its contract.
 use Rattle.asm_operands.proofs.OtherLaws.{number_laws}
-use borrow.Author.Rules.{rules}
 use Rattle.asm_operands.proofs.try_immediate_value.Goals as goal
 
 pub returns-in-Is : goal.returns-in-Is

@@ -1,6 +1,5 @@
 -- `try_label` meets its contract.
 use Rattle.asm_operands.proofs.OtherLaws.{label_laws}
-use borrow.Author.Rules.{rules}
 use Rattle.asm_operands.proofs.try_label.Goals as goal
 
 pub returns-then-piece-lt4 : goal.returns-then-piece-lt4

@@ -1,6 +1,5 @@
 -- `try_reg` meets its contract.
 use Rattle.asm_operands.proofs.OtherLaws.{register_laws}
-use borrow.Author.Rules.{rules}
 use Rattle.asm_operands.proofs.try_reg.Goals as goal
 
 pub returns-in-Is : goal.returns-in-Is

@@ -1,6 +1,5 @@
 -- `try_reg_with_reg_offset` meets its contract.
 use Rattle.asm_operands.proofs.Laws.{paired_laws}
-use borrow.Author.Rules.{rules}
 use Rattle.asm_operands.proofs.try_reg_with_reg_offset.Goals as goal
 
 pub returns-in_default : goal.returns-in_default

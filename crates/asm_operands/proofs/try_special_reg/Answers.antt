@@ -1,6 +1,5 @@
 -- `try_special_reg` meets its contract.
 use Rattle.asm_operands.proofs.OtherLaws.{special_laws}
-use borrow.Author.Rules.{rules}
 use Rattle.asm_operands.proofs.try_special_reg.Goals as goal
 
 pub returns-in-Is : goal.returns-in-Is

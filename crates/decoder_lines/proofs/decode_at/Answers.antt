@@ -1,6 +1,5 @@
 -- `decode_at` meets its contract.
 use Rattle.decoder_lines.proofs.ReadLaws.{read_laws}
-use borrow.Author.Rules.{rules}
 use Rattle.decoder_lines.proofs.decode_at.Goals as goal
 
 pub overflow_add-end : goal.overflow_add-end

@@ -1,6 +1,5 @@
 -- `group_at` meets its contract.
 use Rattle.decoder_lines.proofs.AtLaws.{at_laws}
-use borrow.Author.Rules.{rules}
 use Rattle.decoder_lines.proofs.group_at.Goals as goal
 
 pub returns-then-text-offset : goal.returns-then-text-offset

@@ -1,6 +1,5 @@
 -- `group_of` meets its contract.
 use Rattle.decoder_lines.proofs.AtLaws.{of_laws}
-use borrow.Author.Rules.{rules}
 use Rattle.decoder_lines.proofs.group_of.Goals as goal
 
 pub returns-then-not-asks_number : goal.returns-then-not-asks_number

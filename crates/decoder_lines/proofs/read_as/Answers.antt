@@ -1,6 +1,5 @@
 -- `read_as` meets its contract.
 use Rattle.decoder_lines.proofs.ReadLaws.{as_laws}
-use borrow.Author.Rules.{rules}
 use Rattle.decoder_lines.proofs.read_as.Goals as goal
 
 pub returns-in-Is : goal.returns-in-Is

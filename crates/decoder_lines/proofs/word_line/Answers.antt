@@ -1,6 +1,5 @@
 -- `word_line` meets its contract.
 use Rattle.decoder_lines.proofs.WordLaws.{form_laws}
-use borrow.Author.Rules.{rules}
 use Rattle.decoder_lines.proofs.word_line.Goals as goal
 
 pub returns-then-text-lt19 : goal.returns-then-text-lt19

@@ -1,6 +1,5 @@
 -- `decoder_words::built_with` meets its contract.
 use Rattle.decoder_words.proofs.Laws.{built-laws}
-use borrow.Author.Rules.{rules}
 use Rattle.decoder_words.proofs.built_with.Goals as goal
 
 pub returns-then-is_memory : goal.returns-then-is_memory

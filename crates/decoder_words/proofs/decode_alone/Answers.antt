@@ -1,6 +1,5 @@
 -- `decoder_words::decode_alone` meets its contract.
 use Rattle.decoder_words.proofs.Laws.{alone_laws}
-use borrow.Author.Rules.{rules}
 use Rattle.decoder_words.proofs.decode_alone.Goals as goal
 
 pub returns-in-Nothing : goal.returns-in-Nothing

@@ -1,6 +1,5 @@
 -- `decoder_words::decode_with` meets its contract.
 use Rattle.decoder_words.proofs.Laws.{with_laws}
-use borrow.Author.Rules.{rules}
 use Rattle.decoder_words.proofs.decode_with.Goals as goal
 
 pub returns-in_default : goal.returns-in_default

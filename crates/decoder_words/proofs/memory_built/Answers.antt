@@ -1,6 +1,5 @@
 -- `decoder_words::memory_built` meets its contract.
 use Rattle.decoder_words.proofs.Laws.{memory-laws}
-use borrow.Author.Rules.{rules}
 use Rattle.decoder_words.proofs.memory_built.Goals as goal
 
 pub returns-in_default : goal.returns-in_default

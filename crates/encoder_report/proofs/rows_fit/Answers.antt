@@ -1,9 +1,4 @@
 -- `rows_fit` meets its contract.
-use Prim.Native.Nat.{◌+◌, ◌-◌, ◌≤◌}
-use mathlib.Core.Path.{◌≡◌}
-use mathlib.Core.Bool.{false}
-use lib.ListN.{length, drop}
-use Rattle.encoder_report.specs.Left.{rows_left}
 use Rattle.encoder_report.proofs.Laws.{fit_laws}
 use Rattle.encoder_report.proofs.rows_fit.Goals as goal
 

@@ -4,7 +4,6 @@ use mathlib.Core.Path.{◌≡◌}
 use mathlib.Core.Bool.{false}
 use lib.ListN.{length, drop}
 use Rattle.encoder_report.specs.Left.{rows_left}
-use Rattle.encoder_report.proofs.Laws.{fit_laws}
 use Rattle.encoder_report.proofs.rows_fit.Given as goal
 
 abbrev pub invariant-loop-i : goal.invariant-loop-i

@@ -1,10 +1,4 @@
 -- `write_rows` meets its contract.
-use Prim.Native.Nat.{◌+◌, ◌-◌, ◌≤◌}
-use mathlib.Core.Path.{◌≡◌}
-use mathlib.Core.Bool.{false}
-use lib.ListN.{length, drop}
-use lib.Seq.{sets}
-use Rattle.encoder_report.specs.Left.{rows_left}
 use Rattle.encoder_report.proofs.Laws.{rows_laws}
 use Rattle.encoder_report.proofs.write_rows.Goals as goal
 

@@ -5,7 +5,6 @@ use mathlib.Core.Bool.{false}
 use lib.ListN.{length, drop}
 use lib.Seq.{sets}
 use Rattle.encoder_report.specs.Left.{rows_left}
-use Rattle.encoder_report.proofs.Laws.{rows_laws}
 use Rattle.encoder_report.proofs.write_rows.Given as goal
 
 abbrev pub invariant-loop-i : goal.invariant-loop-i

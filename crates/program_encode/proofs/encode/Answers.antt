@@ -1,6 +1,5 @@
 -- `encode` meets its contract.
 use Rattle.program_encode.proofs.Laws.{encode_laws}
-use borrow.Author.Rules.{rules}
 use Rattle.program_encode.proofs.encode.Goals as goal
 
 pub returns-then-has_too_large : goal.returns-then-has_too_large

@@ -1,9 +1,5 @@
 -- `get_asm_form_code` meets its contract.
-use mathlib.Core.Path.{sym}
-use native.Mathlib.Omega.{arith}
-use lib.Seq.{length-take-le}
 use Rattle.program_listing.proofs.Laws.{row_laws}
-use borrow.Author.Rules.{rules}
 use Rattle.program_listing.proofs.get_asm_form_code.Goals as goal
 
 pub returns-then-has_too_large : goal.returns-then-has_too_large

@@ -1,9 +1,4 @@
 -- `relocate_kept::all_below` meets its contract.
-use Prim.Native.Nat.{◌-◌}
-use mathlib.Core.Path.{◌≡◌}
-use lib.Dec.{ltb}
-use lib.ListN.{length, drop}
-use Rattle.text.specs.Scan.{all}
 use Rattle.relocate_kept.proofs.KeptLaws.{all_laws}
 use Rattle.relocate_kept.proofs.all_below.Goals as goal
 

@@ -4,7 +4,6 @@ use mathlib.Core.Path.{◌≡◌}
 use lib.Dec.{ltb}
 use lib.ListN.{length, drop}
 use Rattle.text.specs.Scan.{all}
-use Rattle.relocate_kept.proofs.KeptLaws.{all_laws}
 use Rattle.relocate_kept.proofs.all_below.Given as goal
 
 abbrev pub invariant-loop-i : goal.invariant-loop-i

@@ -1,8 +1,4 @@
 -- `relocate_kept::kept_few` meets its contract.
-use Prim.Native.Nat.{◌+◌, ◌-◌, ◌≤◌}
-use mathlib.Core.Path.{◌≡◌}
-use lib.ListN.{length, drop}
-use Rattle.relocate.specs.Prophets.{kept_from, kept_count}
 use Rattle.relocate_kept.proofs.KeptLaws.{kept_laws}
 use Rattle.relocate_kept.proofs.kept_few.Goals as goal
 

@@ -3,7 +3,6 @@ use Prim.Native.Nat.{◌+◌, ◌-◌, ◌≤◌}
 use mathlib.Core.Path.{◌≡◌}
 use lib.ListN.{length, drop}
 use Rattle.relocate.specs.Prophets.{kept_from, kept_count}
-use Rattle.relocate_kept.proofs.KeptLaws.{kept_laws}
 use Rattle.relocate_kept.proofs.kept_few.Given as goal
 
 abbrev pub invariant-loop-i : goal.invariant-loop-i

@@ -1,9 +1,4 @@
 -- `relocate_kept::kept_many` meets its contract. The invariant: the hosts from i on are those that are marked, and so many of them are kept as are counted.
-use Prim.Native.Nat.{◌+◌, ◌≤◌}
-use mathlib.Core.Path.{◌≡◌}
-use lib.ListN.{length, drop}
-use Rattle.relocate.specs.Prophets.{kept_from}
-use Rattle.relocate_kept.proofs.MarkLaws.{Marks}
 use Rattle.relocate_kept.proofs.KeptLaws.{walk_laws}
 use Rattle.relocate_kept.proofs.kept_many.Goals as goal
 

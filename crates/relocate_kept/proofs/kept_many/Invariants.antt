@@ -4,7 +4,6 @@ use mathlib.Core.Path.{◌≡◌}
 use lib.ListN.{length, drop}
 use Rattle.relocate.specs.Prophets.{kept_from}
 use Rattle.relocate_kept.proofs.MarkLaws.{Marks}
-use Rattle.relocate_kept.proofs.KeptLaws.{walk_laws}
 use Rattle.relocate_kept.proofs.kept_many.Given as goal
 
 abbrev pub invariant-loop-i : goal.invariant-loop-i

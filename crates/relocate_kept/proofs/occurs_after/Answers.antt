@@ -1,8 +1,4 @@
 -- `relocate_kept::occurs_after` meets its contract.
-use Prim.Native.Nat.{◌-◌}
-use mathlib.Core.Path.{◌≡◌}
-use lib.ListN.{length, drop}
-use Rattle.relocate.specs.Prophets.{is_in}
 use Rattle.relocate_kept.proofs.KeptLaws.{occurs_laws}
 use Rattle.relocate_kept.proofs.occurs_after.Goals as goal
 

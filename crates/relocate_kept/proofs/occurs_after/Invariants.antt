@@ -3,7 +3,6 @@ use Prim.Native.Nat.{◌-◌}
 use mathlib.Core.Path.{◌≡◌}
 use lib.ListN.{length, drop}
 use Rattle.relocate.specs.Prophets.{is_in}
-use Rattle.relocate_kept.proofs.KeptLaws.{occurs_laws}
 use Rattle.relocate_kept.proofs.occurs_after.Given as goal
 
 abbrev pub invariant-loop-i : goal.invariant-loop-i

@@ -1,8 +1,4 @@
 -- `relocate_names::held_address` meets its contract.
-use Prim.Native.Nat.{◌≤◌}
-use mathlib.Core.Path.{◌≡◌}
-use lib.ListN.{length, take}
-use Rattle.relocate.specs.Columns.{entries_of, held_address}
 use Rattle.relocate_names.proofs.NameLaws.{held_laws}
 use Rattle.relocate_names.proofs.held_address.Goals as goal
 

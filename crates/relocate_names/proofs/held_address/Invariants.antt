@@ -3,7 +3,6 @@ use Prim.Native.Nat.{◌≤◌}
 use mathlib.Core.Path.{◌≡◌}
 use lib.ListN.{length, take}
 use Rattle.relocate.specs.Columns.{entries_of, held_address}
-use Rattle.relocate_names.proofs.NameLaws.{held_laws}
 use Rattle.relocate_names.proofs.held_address.Given as goal
 
 abbrev pub invariant-loop-i : goal.invariant-loop-i

@@ -1,0 +1,7 @@
+-- `encode_chained` meets its contract: what is found by the chains is what the label table holds.
+use Rattle.encoder_assemble.proofs.ChainedLaws.{chains_ready}
+use borrow.Author.Rules.{rules}
+use Rattle.encoder_assemble.proofs.encode_chained.Goals as goal
+
+pub encode_filled-requires-clause-chains_value : goal.encode_filled-requires-clause-chains_value
+encode_filled-requires-clause-chains_value c = (c.requires.0, chains_ready _ _ _ c.requires.0 _ c.requires.1 _ c.chain_names.ensures)

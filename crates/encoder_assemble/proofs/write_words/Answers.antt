@@ -1,0 +1,33 @@
+-- `encoder_assemble::write_words` meets its contract: what was written and the words that are left make all of them.
+use Prim.Native.Nat.{◌+◌, ◌-◌, ◌≤◌}
+use mathlib.Core.Path.{◌≡◌}
+use lib.ListN.{length}
+use lib.Seq.{sets}
+use Rattle.relocate.specs.Layout.{sorted_instructions}
+use Rattle.relocate.specs.Columns.{entries_of}
+use Rattle.relocate_chains.specs.Chains.{chained_address}
+use Rattle.encoder_walks.proofs.LineLaws.{rows_from}
+use Rattle.encoder_assemble.specs.Written.{held_words}
+use Rattle.encoder_assemble.proofs.WriteLaws.{write_laws}
+use Rattle.encoder_assemble.proofs.write_words.Goals as goal
+
+pub loop-at-init : goal.loop-at-init
+loop-at-init c = (search write_laws, search write_laws, search write_laws)
+
+pub put_words-written-requires : goal.put_words-written-requires
+put_words-written-requires c = search write_laws
+
+pub loop-at-smaller-in-Is : goal.loop-at-smaller-in-Is
+loop-at-smaller-in-Is c = search write_laws
+
+pub loop-at-preserved-in-Is : goal.loop-at-preserved-in-Is
+loop-at-preserved-in-Is c = (search write_laws, search write_laws, search write_laws)
+
+pub loop-at-smaller : goal.loop-at-smaller
+loop-at-smaller c = search write_laws
+
+pub loop-at-preserved : goal.loop-at-preserved
+loop-at-preserved c = (search write_laws, search write_laws, search write_laws)
+
+pub returns : goal.returns
+returns c = search write_laws
