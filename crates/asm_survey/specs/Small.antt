@@ -1,7 +1,6 @@
 -- Sums that are at most n, and of one call label.
 use Rattle.std.specs.Prelude.{ℕ, ◌≤◌, ◌≡◌, Bool, cond}
 use Rattle.asm.specs.Survey.{joined_end}
-use Rattle.asm.specs.declared.PlaceFound.{PlaceFound}
 use Rattle.asm.specs.declared.PlaceFound.TheVariants.{At, Nothing}
 use Rattle.asm.specs.declared.Tally.{Tally}
 

@@ -1,5 +1,6 @@
 // The survey of a text: one walk over its lines that reads every row and adds up what later steps need. No row is stored.
 #![tactic(auto)]
+
 ghost use Rattle.std.specs.Prelude.{◌≡◌, true, false, [], ◌∷◌};
 ghost use Rattle.text.specs.Bytes.{bytes, same};
 ghost use Rattle.asm.specs.Parts.{name_at};

@@ -1,5 +1,6 @@
 // The opened bytecode: open and next over the functions on a text and a line.
 #![tactic(auto)]
+
 ghost use Rattle.std.specs.Prelude.{◌≡◌};
 ghost use Rattle.decoder_bytecode.specs.Forms.{open_form, open_of, step_form, step_of};
 

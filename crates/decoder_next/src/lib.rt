@@ -1,5 +1,6 @@
 // The next instruction of a bytecode, on its text and an offset: refusals 14 to 20.
 #![tactic(auto)]
+
 ghost use Rattle.std.specs.Prelude.{◌≡◌};
 ghost use Rattle.decoder.specs.Steps.{step_numbered, stepped_at};
 

@@ -1,5 +1,6 @@
 // Opening a bytecode on its text: refusals 14 to 19.
 #![tactic(auto)]
+
 ghost use Rattle.std.specs.Prelude.{◌≡◌, ◌≤◌, drop};
 ghost use Rattle.text.specs.Lines.{lines};
 ghost use Rattle.text.specs.Answer.{refused};

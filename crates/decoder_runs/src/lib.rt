@@ -1,5 +1,6 @@
 // The next instruction of a bytecode from a line on, and what a call of a run answers, both by offsets: refusals 14 to 20.
 #![tactic(auto)]
+
 ghost use Rattle.std.specs.Prelude.{◌≡◌};
 ghost use Rattle.decoder.specs.Steps.{found_numbered, line_numbered, stepped, lines_end, nth_call};
 

@@ -1,6 +1,7 @@
 // The canonical instruction of a row, its names looked up in the label table: assembler/src/encoder.rs. The table's five columns and its chains are
 // lent one by one.
 #![tactic(auto)]
+
 ghost use Rattle.std.specs.Prelude.{◌≡◌};
 ghost use Rattle.asm.specs.Parts.{name_at};
 ghost use Rattle.relocate.specs.Columns.{entries_of};

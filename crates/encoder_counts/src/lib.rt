@@ -1,5 +1,6 @@
 // What assembling answers for a source that it accepts.
 #![tactic(auto)]
+
 ghost use Rattle.std.specs.Prelude.{◌≡◌, length};
 ghost use Rattle.relocate.specs.Prophets.{kept_count};
 ghost use Rattle.encoder.specs.declared.Assembly.TheVariants.{Assembled};

@@ -1,5 +1,6 @@
 // The number and the detail of what assembling refuses.
 #![tactic(auto)]
+
 ghost use Rattle.std.specs.Prelude.{◌≡◌};
 ghost use Rattle.relocate.specs.Relocate.{relocate_number, relocate_detail};
 ghost use Rattle.encoder.specs.Assemble.{assemble_number, assemble_detail};

@@ -1,7 +1,7 @@
 -- A program whose names are all known: its first row, and the rest.
 use Prim.Native.Nat.{ℕ, suc}
 use mathlib.Core.Path.{◌≡◌}
-use mathlib.Core.List.{List, [], ◌∷◌}
+use mathlib.Core.List.{List, ◌∷◌}
 use Rattle.text.specs.Answer.{ok}
 use Rattle.text.proofs.AnswerLaws.{ok_same, ok_bind}
 use Rattle.asm.specs.declared.OlaAsmInstruction.{OlaAsmInstruction}

@@ -1,5 +1,6 @@
 // Refusals 10 to 12 and 25: one walk over the canonical instructions in sorted order, by the label table's five columns and its chains.
 #![tactic(auto)]
+
 ghost use Rattle.std.specs.Prelude.{◌≡◌, ◌≤◌, length};
 ghost use Rattle.text.specs.Answer.{refuse_at};
 ghost use Rattle.relocate.specs.Layout.{sorted_instructions};

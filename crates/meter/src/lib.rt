@@ -1,5 +1,6 @@
 // The build meter: one running total of the words of accepted builds (document 02, Point 3). It goes into each build by value and comes back.
 #![tactic(auto)]
+
 ghost use Rattle.std.specs.Prelude.{◌≡◌};
 ghost use Rattle.encoder.specs.Assemble.{numbered};
 ghost use Rattle.meter.specs.Meter.{at_start, meter_told};

@@ -1,6 +1,7 @@
 // What the library answers as C structs, all but opening and next, which ola_steps has: refusal 0 means accepted, and on refusal every other number but the
 // detail is 0, but that a meter is the one that was given. Nothing but conversions.
 #![tactic(auto)]
+
 ghost use Rattle.std.specs.Prelude.{◌≡◌};
 ghost use Rattle.text.specs.Answer.{ok, refused};
 ghost use Rattle.asm.specs.Parts.{name_part};

@@ -1,7 +1,6 @@
 -- What holds of every accepted source: the form of its canonical program, numbers below p, and bytecode that can be opened.
-use Rattle.std.specs.Prelude.{ℕ, ◌*◌, ◌≤◌, ◌<◌, ◌≡◌, List, map, length}
-use Rattle.std.proofs.Common.{sym, ap, subst, ◌∙◌, arith}
-use Rattle.text.specs.Lists.{total}
+use Rattle.std.specs.Prelude.{ℕ, ◌≤◌, ◌≡◌, List, length}
+use Rattle.std.proofs.Common.{arith}
 use Rattle.text.specs.Answer.{ok}
 use Rattle.text.specs.All.{All}
 use Rattle.asm.specs.Rows.{instructions}
@@ -10,12 +9,12 @@ use Rattle.asm_laws.proofs.NumberLaws.{OperandsBelow, numbers_below}
 use Rattle.asm_laws.proofs.ShapeLaws.{MemoryShaped, memory_shaped}
 use Rattle.relocate.specs.Relocate.{sorted_of}
 use Rattle.relocate_laws.proofs.LengthLaws.{address_below, sorted_instructions_lem}
-use Rattle.program.specs.Words.{program_words, emitted_length}
+use Rattle.program.specs.Words.{program_words}
 use Rattle.program.specs.Bytecode.{bytecode_of}
 use Rattle.program.specs.CanonicalForm.{CanonicalForm, InOrder}
 use Rattle.program.proofs.FormLaws.{total_emitted, words_below}
 use Rattle.encoder.specs.Assemble.{Room, Accepted, assembled}
-use Rattle.encoder.proofs.AcceptedLaws.{AcceptedRows, accepted_rows, canonical_form, in_order}
+use Rattle.encoder.proofs.AcceptedLaws.{accepted_rows, canonical_form, in_order}
 use Rattle.decoder.specs.Open.{max_bytecode_bytes}
 use Rattle.decoder.proofs.LineLaws.{bytecode_length}
 use Rattle.decoder.proofs.GroupLaws.{Readable}

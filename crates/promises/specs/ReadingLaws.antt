@@ -1,14 +1,13 @@
 -- An instruction of canonical form whose numbers are below p is read back from its own words.
-use Rattle.std.specs.Prelude.{ℕ, ◌<◌, ◌≡◌, refl, List, [], ◌∷◌}
+use Rattle.std.specs.Prelude.{ℕ, ◌≡◌, refl, List, [], ◌∷◌}
 use Rattle.std.proofs.Common.{sym}
 use Rattle.std.proofs.Math.Option.{Option, none, some}
 use Rattle.text.specs.Answer.{ok}
 use Rattle.text.specs.All.{All, none_left, one_more}
 use Rattle.text_write.specs.Digits.{fewest_text}
-use Rattle.vm_operands.specs.Numbers.{order}
 use Rattle.program.specs.Words.{first_word, second_word}
 use Rattle.program.specs.declared.BinaryInstruction.{BinaryInstruction}
-use Rattle.program.specs.CanonicalForm.{CanonicalForm, InOrder, BelowOrder, no_number, below}
+use Rattle.program.specs.CanonicalForm.{CanonicalForm, InOrder, BelowOrder, below}
 use Rattle.program.proofs.WordLaws.{first_lt}
 use Rattle.program.proofs.FormLaws.{second_in, second_below}
 use Rattle.decoder.specs.Decode.{decoded}

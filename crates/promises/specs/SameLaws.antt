@@ -1,5 +1,5 @@
 -- Equal words, equal bytecode and the same canonical program are one thing for accepted sources.
-use Rattle.std.specs.Prelude.{ℕ, ◌↔◌, ◌≡◌, refl, List, map}
+use Rattle.std.specs.Prelude.{ℕ, ◌↔◌, ◌≡◌, List, map}
 use Rattle.std.proofs.Common.{sym, ap, ◌∙◌}
 use Rattle.text.specs.Answer.{ok}
 use Rattle.text.proofs.AnswerLaws.{ok_same}
@@ -9,7 +9,6 @@ use Rattle.program.specs.declared.BinaryInstruction.{BinaryInstruction}
 use Rattle.encoder.specs.Canonical.{canonical_program}
 use Rattle.encoder.specs.Assemble.{Room, Accepted, assembled}
 use Rattle.encoder.proofs.AcceptedLaws.{AcceptedRows, accepted_rows}
-use Rattle.decoder.specs.AsRead.{as_read}
 use Rattle.decoder.specs.Open.{opened}
 use Rattle.decoder.proofs.BytecodeLaws.{opens}
 use Rattle.promises.specs.Terms.{SameProgram, instruction_residue}

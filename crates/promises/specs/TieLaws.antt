@@ -1,10 +1,10 @@
 -- From the definitions that the promises speak of to what the functions leave and answer.
 use Rattle.std.specs.Prelude.{ℕ, zero, suc, ◌-◌, ◌≤◌, ◌≡◌, refl, List, [], ◌∷◌, ◌++◌, map, ltb, length, take, drop, get_or, replicate}
-use Rattle.std.proofs.Common.{sym, ap, ◌∙◌, arith, le-ltb}
+use Rattle.std.proofs.Common.{ap, ◌∙◌, arith, le-ltb}
 use Rattle.std.proofs.Math.Nat.{sub-zero, suc-sub-suc}
 use Rattle.std.proofs.lemmas.List.{get_or-replicate}
 use Rattle.text.specs.Lines.{lines}
-use Rattle.text.specs.Answer.{Answer, ok, refused, ◌>>◌, refuse_if, refuse_at, over, on_ok}
+use Rattle.text.specs.Answer.{Answer, ok, ◌>>◌, refuse_if, refuse_at, over, on_ok}
 use Rattle.asm.specs.Parts.{Part, text_of, placed_lines}
 use Rattle.asm.specs.Rows.{read_rows}
 use Rattle.asm_laws.proofs.LineLaws.{source_lines}

@@ -1,5 +1,6 @@
 // The label table over a slice of entries: the entry of the next label row, one after the other.
 #![tactic(auto)]
+
 ghost use Rattle.std.specs.Prelude.{◌≡◌, false, ◌≤◌, length};
 ghost use Rattle.relocate.specs.Layout.{measured, measured_numbered};
 ghost use Rattle.relocate.specs.Columns.{table_left};

@@ -1,6 +1,6 @@
 -- Refusals 4 to 6 by a survey's sums.
 use Rattle.std.specs.Prelude.{ℕ, eqb, ltb}
-use Rattle.text.specs.Answer.{Answer, ok, ◌>>=◌, ◌>>◌, refuse_if}
+use Rattle.text.specs.Answer.{Answer, ok, ◌>>◌, refuse_if}
 use Rattle.asm.specs.declared.Tally.{Tally}
 use Rattle.relocate.specs.Layout.{place_or}
 use Rattle.relocate.specs.declared.Layout.{Layout}

@@ -1,5 +1,6 @@
 // Refusals 1 to 7, each before anything is lent: one survey of the source tells them, how its rows are laid out, and how much it takes.
 #![tactic(auto)]
+
 ghost use Rattle.std.specs.Prelude.{◌≡◌};
 ghost use Rattle.relocate.specs.Layout.{place_or, laid_out, measured, measured_numbered};
 ghost use Rattle.relocate.specs.Room.{room_of, room_numbered};

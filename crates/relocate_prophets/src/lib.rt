@@ -1,5 +1,6 @@
 // The prophet list: refusals 8 and 9, and the host of each listed prophet. The label table's five columns and its chains are lent one by one.
 #![tactic(auto)]
+
 ghost use Rattle.std.specs.Prelude.{◌≡◌, ◌≤◌, length};
 ghost use Rattle.std.proofs.lemmas.List.Edits.{sets};
 ghost use Rattle.relocate.specs.Columns.{entries_of, held_hosts_from, held_hosts, host_count, listed_numbered, hosts_put};

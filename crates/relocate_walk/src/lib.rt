@@ -1,6 +1,7 @@
 // The walk over the sorted rows, line by line: main's stretch of the source, then what stands before it, then what stands after it. No
 // crate sorts again.
 #![tactic(auto)]
+
 ghost use Rattle.std.specs.Prelude.{◌≡◌};
 ghost use Rattle.relocate.specs.Layout.{sorted_row_at};
 ghost use Rattle.relocate_walk.specs.Stretch.{stretch_at};

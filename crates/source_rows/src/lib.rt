@@ -1,6 +1,7 @@
 // The source row of one instruction: whether its operation's row has a place for every content, and the row written.
 // A row is put together in a local array and written once, so that a text that is too short is left as it is.
 #![tactic(auto)]
+
 ghost use Rattle.std.specs.Prelude.{◌≡◌, ◌||◌, [], ◌∷◌, ◌++◌, ◌+◌, ◌≤◌, ◌<◌, length, take};
 ghost use Rattle.text_write.specs.Digits.{decimal_text};
 ghost use Rattle.text_write.specs.Put.{put_count, put_into};

@@ -1,6 +1,7 @@
 // The source of a bytecode written into a lent text: refusals 14 to 19, 26 and 23. The bytecode is gone through by offsets, once for each question that is
 // asked of it, and no text but the lent one is needed.
 #![tactic(auto)]
+
 ghost use Rattle.std.specs.Prelude.{◌≡◌, ◌∷◌, ◌+◌, ◌≤◌, leb, length};
 ghost use Rattle.std.proofs.lemmas.List.Edits.{sets};
 ghost use Rattle.program.specs.Bytecode.{within, text_left};

@@ -1,5 +1,4 @@
 use Rattle.asm_survey.proofs.Laws.{main_laws}
-use borrow.Author.Rules.{rules}
 use Rattle.asm_survey.proofs.is_main.Goals as goal
 
 pub returns-then-length-ne4 : goal.returns-then-length-ne4

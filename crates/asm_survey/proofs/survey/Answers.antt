@@ -1,11 +1,4 @@
 -- `survey` meets its contract: after each line the sums so far and the survey of what is left make the survey of the whole.
-use Prim.Native.Nat.{◌-◌, ◌≤◌}
-use mathlib.Core.Path.{◌≡◌}
-use borrow.Author.Rules.{rules}
-use lib.ListN.{length}
-use Rattle.text.specs.Answer.{ok}
-use Rattle.asm.specs.Survey.{survey_of, survey_from, joined_surveys}
-use Rattle.asm_survey.specs.Small.{Small}
 use Rattle.asm_survey.proofs.WalkLaws.{walk_laws}
 use Rattle.asm_survey.proofs.survey.Goals as goal
 

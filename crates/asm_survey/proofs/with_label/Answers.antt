@@ -1,5 +1,4 @@
 use Rattle.asm_survey.proofs.Laws.{more_laws}
-use borrow.Author.Rules.{rules}
 use Rattle.asm_survey.proofs.with_label.Goals as goal
 
 pub returns : goal.returns

@@ -1,5 +1,4 @@
 use Rattle.asm_survey.proofs.Laws.{row_laws}
-use borrow.Author.Rules.{rules}
 use Rattle.asm_survey.proofs.with_row.Goals as goal
 
 pub returns-then-is_main : goal.returns-then-is_main

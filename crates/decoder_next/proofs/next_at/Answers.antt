@@ -1,6 +1,5 @@
 -- `next_at` meets its contract.
 use Rattle.decoder_next.proofs.NextLaws.{at_laws}
-use borrow.Author.Rules.{rules}
 use Rattle.decoder_next.proofs.next_at.Goals as goal
 
 pub returns-then-text-gt-MAX_BYTECODE_BYTES : goal.returns-then-text-gt-MAX_BYTECODE_BYTES

@@ -1,9 +1,4 @@
 -- `decoder_open::first_unreadable` meets its contract.
-use Prim.Native.Nat.{◌-◌, ◌≤◌}
-use mathlib.Core.Path.{◌≡◌}
-use lib.ListN.{length, drop}
-use Rattle.text.specs.Lines.{lines}
-use Rattle.decoder.specs.Lines.{line_groups, first_unreadable}
 use Rattle.decoder_open.proofs.LineLaws.{line_laws}
 use Rattle.decoder_open.proofs.first_unreadable.Goals as goal
 

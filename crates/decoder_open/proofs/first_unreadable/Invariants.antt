@@ -4,7 +4,6 @@ use mathlib.Core.Path.{◌≡◌}
 use lib.ListN.{length, drop}
 use Rattle.text.specs.Lines.{lines}
 use Rattle.decoder.specs.Lines.{line_groups, first_unreadable}
-use Rattle.decoder_open.proofs.LineLaws.{line_laws}
 use Rattle.decoder_open.proofs.first_unreadable.Given as goal
 
 abbrev pub invariant-loop-at : goal.invariant-loop-at

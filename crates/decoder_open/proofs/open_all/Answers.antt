@@ -1,11 +1,4 @@
 -- `decoder_open::open_all` meets its contract: after each instruction what is left opens as the whole does, from the line and the index reached.
-use Prim.Native.Nat.{◌-◌, ◌≤◌}
-use mathlib.Core.Path.{◌≡◌}
-use lib.ListN.{length, drop}
-use Rattle.text.specs.Lines.{lines}
-use Rattle.decoder.specs.Lines.{line_groups, complete_of, first_unreadable}
-use Rattle.decoder.specs.Open.{all_decoded}
-use Rattle.decoder.specs.Steps.{accepted_of}
 use Rattle.decoder_open.proofs.AllLaws.{all_laws}
 use Rattle.decoder_open.proofs.open_all.Goals as goal
 

@@ -6,7 +6,6 @@ use Rattle.text.specs.Lines.{lines}
 use Rattle.decoder.specs.Lines.{line_groups, complete_of, first_unreadable}
 use Rattle.decoder.specs.Open.{all_decoded}
 use Rattle.decoder.specs.Steps.{accepted_of}
-use Rattle.decoder_open.proofs.AllLaws.{all_laws}
 use Rattle.decoder_open.proofs.open_all.Given as goal
 
 abbrev pub invariant-loop-at : goal.invariant-loop-at

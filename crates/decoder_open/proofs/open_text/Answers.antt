@@ -1,6 +1,5 @@
 -- `decoder_open::open_text` meets its contract.
 use Rattle.decoder_open.proofs.OpenLaws.{open_laws}
-use borrow.Author.Rules.{rules}
 use Rattle.decoder_open.proofs.open_text.Goals as goal
 
 pub returns-then-text-gt-MAX_BYTECODE_BYTES : goal.returns-then-text-gt-MAX_BYTECODE_BYTES

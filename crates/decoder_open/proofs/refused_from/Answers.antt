@@ -1,6 +1,5 @@
 -- `decoder_open::refused_from` meets its contract.
 use Rattle.decoder_open.proofs.OpenLaws.{from_laws}
-use borrow.Author.Rules.{rules}
 use Rattle.decoder_open.proofs.refused_from.Goals as goal
 
 pub returns-in-At : goal.returns-in-At

@@ -1,8 +1,4 @@
 -- `line_offset` answers where a line starts: the bytes passed and those of the lines that are left are those of all.
-use Prim.Native.Nat.{◌+◌, ◌-◌, ◌≤◌}
-use mathlib.Core.Path.{◌≡◌}
-use lib.ListN.{length, drop}
-use Rattle.decoder.specs.Steps.{lines_end}
 use Rattle.decoder_runs.proofs.RunLaws.{line_laws}
 use Rattle.decoder_runs.proofs.line_offset.Goals as goal
 

@@ -3,7 +3,6 @@ use Prim.Native.Nat.{◌+◌, ◌-◌, ◌≤◌}
 use mathlib.Core.Path.{◌≡◌}
 use lib.ListN.{length, drop}
 use Rattle.decoder.specs.Steps.{lines_end}
-use Rattle.decoder_runs.proofs.RunLaws.{line_laws}
 use Rattle.decoder_runs.proofs.line_offset.Given as goal
 
 abbrev pub invariant-loop-n : goal.invariant-loop-n

@@ -1,6 +1,5 @@
 -- `next_line` meets its contract.
 use Rattle.decoder_runs.proofs.RunLaws.{step_laws}
-use borrow.Author.Rules.{rules}
 use Rattle.decoder_runs.proofs.next_line.Goals as goal
 
 pub overflow_add-result : goal.overflow_add-result

@@ -1,8 +1,4 @@
 -- `nth` answers the k-th call of a run: the calls that are left from the offset reached end in that call.
-use Prim.Native.Nat.{◌-◌}
-use mathlib.Core.Path.{◌≡◌}
-use Rattle.decoder.specs.Steps.{nth_call}
-use Rattle.decoder.proofs.OffsetLaws.{call_at}
 use Rattle.decoder_runs.proofs.RunLaws.{nth_laws}
 use Rattle.decoder_runs.proofs.nth.Goals as goal
 

@@ -3,7 +3,6 @@ use Prim.Native.Nat.{◌-◌}
 use mathlib.Core.Path.{◌≡◌}
 use Rattle.decoder.specs.Steps.{nth_call}
 use Rattle.decoder.proofs.OffsetLaws.{call_at}
-use Rattle.decoder_runs.proofs.RunLaws.{nth_laws}
 use Rattle.decoder_runs.proofs.nth.Given as goal
 
 abbrev pub invariant-loop-i : goal.invariant-loop-i

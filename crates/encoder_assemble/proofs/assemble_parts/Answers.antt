@@ -4,25 +4,25 @@ use borrow.Author.Rules.{rules}
 use Rattle.encoder_assemble.proofs.assemble_parts.Goals as goal
 
 pub returns-in-Refused-clause-result_value : goal.returns-in-Refused-clause-result_value
-returns-in-Refused-clause-result_value c = source_refused _ _ _ _ _ _ c.label_table-found.ensures.0 _ c.in-Refused.is
+returns-in-Refused-clause-result_value c = source_refused _ _ _ _ _ _ c.label_table-found.ensures.result_value _ c.in-Refused.is
 
 pub returns-in-Refused-clause-words_after : goal.returns-in-Refused-clause-words_after
-returns-in-Refused-clause-words_after c = source_words _ _ _ _ _ _ c.label_table-found.ensures.0 _ c.in-Refused.is _
+returns-in-Refused-clause-words_after c = source_words _ _ _ _ _ _ c.label_table-found.ensures.result_value _ c.in-Refused.is _
 
 pub returns-in-Refused-clause-hosts_after : goal.returns-in-Refused-clause-hosts_after
-returns-in-Refused-clause-hosts_after c = source_hosts _ _ _ _ _ _ c.label_table-found.ensures.0 _ c.in-Refused.is _
+returns-in-Refused-clause-hosts_after c = source_hosts _ _ _ _ _ _ c.label_table-found.ensures.result_value _ c.in-Refused.is _
 
 pub encode_table-requires-clause-labels_in_bounds : goal.encode_table-requires-clause-labels_in_bounds
-encode_table-requires-clause-labels_in_bounds c = (room_measured _ c.args.prophets.now _ 0 0 _ c.label_table-found.ensures.0 _ c.in-Is.is _ c.shortest-room.ensures, ((column_room _ c.args.prophets.now _ 0 0 _ c.label_table-found.ensures.0 _ c.in-Is.is _ _ _ c.label_table-found.ensures.1.0, column_room _ c.args.prophets.now _ 0 0 _ c.label_table-found.ensures.0 _ c.in-Is.is _ _ _ c.label_table-found.ensures.1.1.0, column_room _ c.args.prophets.now _ 0 0 _ c.label_table-found.ensures.0 _ c.in-Is.is _ _ _ c.label_table-found.ensures.1.1.1.0, column_room _ c.args.prophets.now _ 0 0 _ c.label_table-found.ensures.0 _ c.in-Is.is _ _ _ c.label_table-found.ensures.1.1.1.1.0, column_room _ c.args.prophets.now _ 0 0 _ c.label_table-found.ensures.0 _ c.in-Is.is _ _ _ c.label_table-found.ensures.1.1.1.1.1), table_filled _ c.args.prophets.now _ 0 0 _ c.label_table-found.ensures.0 _ c.in-Is.is _ _ _ _ _ _ _ _ _ _ c.label_table-found.ensures.1.0 c.label_table-found.ensures.1.1.0 c.label_table-found.ensures.1.1.1.0 c.label_table-found.ensures.1.1.1.1.0 c.label_table-found.ensures.1.1.1.1.1))
+encode_table-requires-clause-labels_in_bounds c = (column_room _ c.args.prophets.now _ 0 0 _ c.label_table-found.ensures.result_value _ c.in-Is.is _ _ _ c.label_table-found.ensures.kinds_after, column_room _ c.args.prophets.now _ 0 0 _ c.label_table-found.ensures.result_value _ c.in-Is.is _ _ _ c.label_table-found.ensures.mapped_after, column_room _ c.args.prophets.now _ 0 0 _ c.label_table-found.ensures.result_value _ c.in-Is.is _ _ _ c.label_table-found.ensures.starts_after, column_room _ c.args.prophets.now _ 0 0 _ c.label_table-found.ensures.result_value _ c.in-Is.is _ _ _ c.label_table-found.ensures.lengths_after, column_room _ c.args.prophets.now _ 0 0 _ c.label_table-found.ensures.result_value _ c.in-Is.is _ _ _ c.label_table-found.ensures.addresses_after)
 
 pub encode_table-requires-clause-addresses_value : goal.encode_table-requires-clause-addresses_value
-encode_table-requires-clause-addresses_value c = (room_measured _ c.args.prophets.now _ 0 0 _ c.label_table-found.ensures.0 _ c.in-Is.is _ c.shortest-room.ensures, ((column_room _ c.args.prophets.now _ 0 0 _ c.label_table-found.ensures.0 _ c.in-Is.is _ _ _ c.label_table-found.ensures.1.0, column_room _ c.args.prophets.now _ 0 0 _ c.label_table-found.ensures.0 _ c.in-Is.is _ _ _ c.label_table-found.ensures.1.1.0, column_room _ c.args.prophets.now _ 0 0 _ c.label_table-found.ensures.0 _ c.in-Is.is _ _ _ c.label_table-found.ensures.1.1.1.0, column_room _ c.args.prophets.now _ 0 0 _ c.label_table-found.ensures.0 _ c.in-Is.is _ _ _ c.label_table-found.ensures.1.1.1.1.0, column_room _ c.args.prophets.now _ 0 0 _ c.label_table-found.ensures.0 _ c.in-Is.is _ _ _ c.label_table-found.ensures.1.1.1.1.1), table_filled _ c.args.prophets.now _ 0 0 _ c.label_table-found.ensures.0 _ c.in-Is.is _ _ _ _ _ _ _ _ _ _ c.label_table-found.ensures.1.0 c.label_table-found.ensures.1.1.0 c.label_table-found.ensures.1.1.1.0 c.label_table-found.ensures.1.1.1.1.0 c.label_table-found.ensures.1.1.1.1.1))
+encode_table-requires-clause-addresses_value c = table_filled _ c.args.prophets.now _ 0 0 _ c.label_table-found.ensures.result_value _ c.in-Is.is _ _ _ _ _ _ _ _ _ _ c.label_table-found.ensures.kinds_after c.label_table-found.ensures.mapped_after c.label_table-found.ensures.starts_after c.label_table-found.ensures.lengths_after c.label_table-found.ensures.addresses_after
 
 pub returns-clause-result_value : goal.returns-clause-result_value
-returns-clause-result_value c = source_told _ _ _ _ _ _ c.label_table-found.ensures.0 _ c.in-Is.is _ c.shortest-room.ensures c.encode_table.result c.encode_table.ensures.0
+returns-clause-result_value c = source_told _ _ _ _ _ _ c.label_table-found.ensures.result_value _ c.in-Is.is _ c.shortest-room.ensures c.encode_table.result c.encode_table.ensures.result_value
 
 pub returns-clause-words_after : goal.returns-clause-words_after
-returns-clause-words_after c = source_wrote _ _ _ _ _ _ c.label_table-found.ensures.0 _ c.in-Is.is _ c.shortest-room.ensures _ _ c.encode_table.ensures.1.0
+returns-clause-words_after c = source_wrote _ _ _ _ _ _ c.label_table-found.ensures.result_value _ c.in-Is.is _ c.shortest-room.ensures _ _ c.encode_table.ensures.words_after
 
 pub returns-clause-hosts_after : goal.returns-clause-hosts_after
-returns-clause-hosts_after c = source_hosted _ _ _ _ _ _ c.label_table-found.ensures.0 _ c.in-Is.is _ c.shortest-room.ensures _ _ c.encode_table.ensures.1.1
+returns-clause-hosts_after c = source_hosted _ _ _ _ _ _ c.label_table-found.ensures.result_value _ c.in-Is.is _ c.shortest-room.ensures _ _ c.encode_table.ensures.hosts_after

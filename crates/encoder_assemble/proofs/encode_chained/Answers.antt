@@ -4,4 +4,4 @@ use borrow.Author.Rules.{rules}
 use Rattle.encoder_assemble.proofs.encode_chained.Goals as goal
 
 pub encode_filled-requires-clause-chains_value : goal.encode_filled-requires-clause-chains_value
-encode_filled-requires-clause-chains_value c = (c.requires.0, chains_ready _ _ _ c.requires.0 _ c.requires.1 _ c.chain_names.ensures)
+encode_filled-requires-clause-chains_value c = chains_ready _ _ _ c.requires.room_value _ c.requires.addresses_value _ c.chain_names.ensures

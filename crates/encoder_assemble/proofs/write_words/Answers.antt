@@ -1,4 +1,5 @@
 -- `encoder_assemble::write_words` meets its contract: what was written and the words that are left make all of them.
+use borrow.Author.Rules.{rules}
 use Prim.Native.Nat.{◌+◌, ◌-◌, ◌≤◌}
 use mathlib.Core.Path.{◌≡◌}
 use lib.ListN.{length}
@@ -8,7 +9,7 @@ use Rattle.relocate.specs.Columns.{entries_of}
 use Rattle.relocate_chains.specs.Chains.{chained_address}
 use Rattle.encoder_walks.proofs.LineLaws.{rows_from}
 use Rattle.encoder_assemble.specs.Written.{held_words}
-use Rattle.encoder_assemble.proofs.WriteLaws.{write_laws}
+use Rattle.encoder_assemble.proofs.WriteLaws.{write_laws, room_none}
 use Rattle.encoder_assemble.proofs.write_words.Goals as goal
 
 pub loop-at-init : goal.loop-at-init
@@ -27,7 +28,7 @@ pub loop-at-smaller : goal.loop-at-smaller
 loop-at-smaller c = search write_laws
 
 pub loop-at-preserved : goal.loop-at-preserved
-loop-at-preserved c = (search write_laws, search write_laws, search write_laws)
+loop-at-preserved c = (search write_laws, let h = c.in_default.in_default-own in room_none _ _ _ _ c.loop-at.at c.canonical_at-line.result c.canonical_at-line.ensures c.requires.start_le_end.0 c.requires.start_le_end.1 c.loop-at-test.true _ _ c.loop-at.invariant.1 (search rules), search write_laws)
 
 pub returns : goal.returns
 returns c = search write_laws

@@ -1,6 +1,5 @@
 -- `encoder_canonical::general` meets its contract.
 use Rattle.encoder_canonical.proofs.Laws.{place_laws}
-use borrow.Author.Rules.{rules}
 use Rattle.encoder_canonical.proofs.general.Goals as goal
 
 pub returns-then-has_bracket : goal.returns-then-has_bracket

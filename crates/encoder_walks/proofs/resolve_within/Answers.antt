@@ -1,14 +1,5 @@
 -- `encoder_walks::resolve_within` meets its contract: after each line what is passed so far and what is left make what the whole passes.
-use Prim.Native.Nat.{◌-◌, ◌≤◌}
-use mathlib.Core.Path.{◌≡◌}
-use lib.ListN.{length}
-use Rattle.relocate.specs.Layout.{sorted_instructions}
-use Rattle.relocate.specs.Columns.{entries_of}
-use Rattle.relocate_chains.specs.Chains.{chained_address}
-use Rattle.encoder_canonical.specs.Held.{held_program}
-use Rattle.encoder_walks.specs.Walks.{held_passed}
-use Rattle.encoder_walks.proofs.LineLaws.{rows_from}
-use Rattle.encoder_walks.proofs.WalkLaws.{passed, passed_laws}
+use Rattle.encoder_walks.proofs.WalkLaws.{passed_laws}
 use Rattle.encoder_walks.proofs.resolve_within.Goals as goal
 
 pub loop-at-init : goal.loop-at-init

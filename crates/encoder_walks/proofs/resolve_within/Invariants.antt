@@ -8,7 +8,7 @@ use Rattle.relocate_chains.specs.Chains.{chained_address}
 use Rattle.encoder_canonical.specs.Held.{held_program}
 use Rattle.encoder_walks.specs.Walks.{held_passed}
 use Rattle.encoder_walks.proofs.LineLaws.{rows_from}
-use Rattle.encoder_walks.proofs.WalkLaws.{passed, passed_laws}
+use Rattle.encoder_walks.proofs.WalkLaws.{passed}
 use Rattle.encoder_walks.proofs.resolve_within.Given as goal
 
 abbrev pub invariant-loop-at : goal.invariant-loop-at

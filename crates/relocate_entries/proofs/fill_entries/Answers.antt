@@ -1,5 +1,5 @@
 -- `fill_entries` meets its contract: a turn fills one entry more, as `entries_filled` says it.
-use Rattle.std.proofs.Common.{◌≡◌, refl, sym, ◌∙◌, subst, arith}
+use Rattle.std.proofs.Common.{refl, sym, subst, arith}
 use Rattle.std.proofs.Math.ListN.{length-set}
 use Rattle.relocate_entries.specs.Steps.{WalkFits}
 use Rattle.relocate_entries.proofs.FillLaws.{at_start, none_filled, walk_more, filled_more}

@@ -1,6 +1,4 @@
-use Prim.Native.Nat.{◌-◌}
-use lib.ListN.{length}
-use Rattle.relocate_entries.proofs.NextLaws.{Stepping, next_laws}
+use Rattle.relocate_entries.proofs.NextLaws.{next_laws}
 use Rattle.relocate_entries.proofs.next_label.Goals as goal
 
 pub loop-at-smaller-in-Blank : goal.loop-at-smaller-in-Blank

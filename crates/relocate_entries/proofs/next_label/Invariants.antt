@@ -1,6 +1,6 @@
 use Prim.Native.Nat.{◌-◌}
 use lib.ListN.{length}
-use Rattle.relocate_entries.proofs.NextLaws.{Stepping, next_laws}
+use Rattle.relocate_entries.proofs.NextLaws.{Stepping}
 use Rattle.relocate_entries.proofs.next_label.Given as goal
 
 abbrev pub invariant-loop-at : goal.invariant-loop-at

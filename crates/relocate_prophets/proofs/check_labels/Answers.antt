@@ -1,11 +1,5 @@
 -- `relocate_prophets::check_labels` meets its contract.
-use Prim.Native.Nat.{◌-◌, ◌≤◌}
-use mathlib.Core.Path.{◌≡◌}
-use lib.ListN.{length}
-use Rattle.relocate.specs.Columns.{entries_of, held_hosts_from, host_count}
-use Rattle.relocate_chains.specs.Chains.{chained_address}
-use Rattle.relocate_prophets.specs.Walk.{lines_from}
-use Rattle.relocate_prophets.proofs.HostLaws.{counted, count_laws}
+use Rattle.relocate_prophets.proofs.HostLaws.{count_laws}
 use Rattle.relocate_prophets.proofs.check_labels.Goals as goal
 
 pub overflow_add-end : goal.overflow_add-end

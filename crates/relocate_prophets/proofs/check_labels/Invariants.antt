@@ -5,7 +5,7 @@ use lib.ListN.{length}
 use Rattle.relocate.specs.Columns.{entries_of, held_hosts_from, host_count}
 use Rattle.relocate_chains.specs.Chains.{chained_address}
 use Rattle.relocate_prophets.specs.Walk.{lines_from}
-use Rattle.relocate_prophets.proofs.HostLaws.{counted, count_laws}
+use Rattle.relocate_prophets.proofs.HostLaws.{counted}
 use Rattle.relocate_prophets.proofs.check_labels.Given as goal
 
 abbrev pub invariant-loop-at : goal.invariant-loop-at

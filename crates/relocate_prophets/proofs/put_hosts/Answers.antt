@@ -1,11 +1,4 @@
 -- `relocate_prophets::put_hosts` meets its contract.
-use Prim.Native.Nat.{◌+◌, ◌-◌, ◌≤◌}
-use mathlib.Core.Path.{◌≡◌}
-use lib.ListN.{length}
-use lib.Seq.{sets}
-use Rattle.relocate.specs.Columns.{entries_of}
-use Rattle.relocate_chains.specs.Chains.{chained_address}
-use Rattle.relocate_prophets.specs.Walk.{lines_from, hosts_in}
 use Rattle.relocate_prophets.proofs.HostLaws.{put_laws}
 use Rattle.relocate_prophets.proofs.put_hosts.Goals as goal
 

@@ -6,7 +6,6 @@ use lib.Seq.{sets}
 use Rattle.relocate.specs.Columns.{entries_of}
 use Rattle.relocate_chains.specs.Chains.{chained_address}
 use Rattle.relocate_prophets.specs.Walk.{lines_from, hosts_in}
-use Rattle.relocate_prophets.proofs.HostLaws.{put_laws}
 use Rattle.relocate_prophets.proofs.put_hosts.Given as goal
 
 abbrev pub invariant-loop-at : goal.invariant-loop-at

@@ -1,6 +1,4 @@
-use Prim.Native.Nat.{◌-◌}
-use lib.ListN.{length}
-use Rattle.relocate_table.proofs.FillLaws.{Filling, fill_laws}
+use Rattle.relocate_table.proofs.FillLaws.{fill_laws}
 use Rattle.relocate_table.proofs.fill.Goals as goal
 
 pub loop-at-init : goal.loop-at-init

@@ -1,6 +1,6 @@
 use Prim.Native.Nat.{◌-◌}
 use lib.ListN.{length}
-use Rattle.relocate_table.proofs.FillLaws.{Filling, fill_laws}
+use Rattle.relocate_table.proofs.FillLaws.{Filling}
 use Rattle.relocate_table.proofs.fill.Given as goal
 
 abbrev pub invariant-loop-at : goal.invariant-loop-at

@@ -1,5 +1,4 @@
 use Rattle.relocate_table.proofs.TableLaws.{table_laws}
-use borrow.Author.Rules.{rules}
 use Rattle.relocate_table.proofs.label_table.Goals as goal
 
 pub returns-in-Refused-clause-kinds_after : goal.returns-in-Refused-clause-kinds_after

@@ -1,5 +1,4 @@
 use Rattle.relocate_walk.proofs.Laws.{walk_laws}
-use borrow.Author.Rules.{rules}
 use Rattle.relocate_walk.proofs.sorted_row.Goals as goal
 
 pub slice_bounds-row_at-end : goal.slice_bounds-row_at-end

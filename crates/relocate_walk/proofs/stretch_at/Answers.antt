@@ -1,6 +1,5 @@
 use Rattle.text.proofs.Laws.{tests}
 use Rattle.relocate_walk.specs.Stretch.{stretch_at}
-use borrow.Author.Rules.{rules}
 use Rattle.relocate_walk.proofs.stretch_at.Goals as goal
 
 pub returns-then-end-start : goal.returns-then-end-start

@@ -1,7 +1,6 @@
 -- `put_number` meets its contract.
 use Rattle.text_write.proofs.Laws.{decimal_most}
 use Rattle.program_listing.proofs.Laws.{put_laws}
-use borrow.Author.Rules.{rules}
 use Rattle.source_rows.proofs.put_number.Goals as goal
 
 pub overflow_add-result : goal.overflow_add-result

@@ -1,6 +1,5 @@
 -- `put_places` meets its contract.
 use Rattle.source_rows.proofs.Laws.{places_laws}
-use borrow.Author.Rules.{rules}
 use Rattle.source_rows.proofs.put_places.Goals as goal
 
 pub returns-in-DstMemory : goal.returns-in-DstMemory

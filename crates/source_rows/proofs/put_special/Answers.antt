@@ -1,6 +1,5 @@
 -- `put_special` meets its contract.
 use Rattle.program_listing.proofs.Laws.{put_laws}
-use borrow.Author.Rules.{rules}
 use Rattle.source_rows.proofs.put_special.Goals as goal
 
 pub overflow_add-result : goal.overflow_add-result

@@ -1,9 +1,4 @@
 -- `first_off_row` meets its contract.
-use Prim.Native.Nat.{◌-◌, ◌≤◌}
-use mathlib.Core.Path.{◌≡◌}
-use lib.ListN.{length}
-use Rattle.source.specs.SourceText.{first_off_row}
-use Rattle.source_write.specs.Rest.{instructions_from}
 use Rattle.source_write.proofs.Laws.{off_laws}
 use Rattle.source_write.proofs.first_off_row.Goals as goal
 

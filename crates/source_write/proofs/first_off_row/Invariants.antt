@@ -4,7 +4,6 @@ use mathlib.Core.Path.{◌≡◌}
 use lib.ListN.{length}
 use Rattle.source.specs.SourceText.{first_off_row}
 use Rattle.source_write.specs.Rest.{instructions_from}
-use Rattle.source_write.proofs.Laws.{off_laws}
 use Rattle.source_write.proofs.first_off_row.Given as goal
 
 abbrev pub invariant-loop-at : goal.invariant-loop-at

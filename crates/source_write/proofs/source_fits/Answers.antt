@@ -1,8 +1,4 @@
 -- `source_fits` meets its contract.
-use Prim.Native.Nat.{◌+◌, ◌-◌, ◌≤◌}
-use mathlib.Core.Path.{◌≡◌}
-use lib.ListN.{length}
-use Rattle.source_write.specs.Rest.{instructions_from, rows_text}
 use Rattle.source_write.proofs.Laws.{fit_laws, fit_none, fit_refused, row_over, fit_end}
 use Rattle.source_write.proofs.source_fits.Goals as goal
 

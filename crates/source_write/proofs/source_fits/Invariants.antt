@@ -3,7 +3,6 @@ use Prim.Native.Nat.{◌+◌, ◌-◌, ◌≤◌}
 use mathlib.Core.Path.{◌≡◌}
 use lib.ListN.{length}
 use Rattle.source_write.specs.Rest.{instructions_from, rows_text}
-use Rattle.source_write.proofs.Laws.{fit_laws}
 use Rattle.source_write.proofs.source_fits.Given as goal
 
 abbrev pub invariant-loop-at : goal.invariant-loop-at

@@ -1,9 +1,4 @@
 -- `write_rows` meets its contract.
-use Prim.Native.Nat.{◌+◌, ◌-◌}
-use mathlib.Core.Path.{◌≡◌}
-use lib.ListN.{length}
-use lib.Seq.{sets}
-use Rattle.source_write.specs.Rest.{instructions_from, rows_text}
 use Rattle.source_write.proofs.Laws.{rows_laws}
 use Rattle.source_write.proofs.write_rows.Goals as goal
 

@@ -4,7 +4,6 @@ use mathlib.Core.Path.{◌≡◌}
 use lib.ListN.{length}
 use lib.Seq.{sets}
 use Rattle.source_write.specs.Rest.{instructions_from, rows_text}
-use Rattle.source_write.proofs.Laws.{rows_laws}
 use Rattle.source_write.proofs.write_rows.Given as goal
 
 abbrev pub invariant-loop-at : goal.invariant-loop-at
