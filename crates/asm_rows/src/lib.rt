@@ -1,5 +1,6 @@
 // The row reader: `AsmRow::from_str` and `split_ola_asm_pieces` of assembler/src/asm.rs, on the line of a source that starts at a place.
 #![tactic(auto)]
+
 ghost use Rattle.std.specs.Prelude.{◌≡◌, [], ◌∷◌, drop};
 ghost use Rattle.vm_opcodes.specs.declared.OpcodeFound.TheVariants.{Is, Nothing};
 ghost use Rattle.asm.specs.Parts.{pieces_from};

@@ -1,5 +1,6 @@
 // Refusals 8 to 13 and 25 of assembling, each before a word is written: the names, memory operands, brackets, numbers and room of assembler/src/encoder.rs.
 #![tactic(auto)]
+
 ghost use Rattle.std.specs.Prelude.{◌≡◌};
 ghost use Rattle.relocate.specs.Columns.{entries_of};
 ghost use Rattle.relocate_chains.specs.Chains.{chained_address};

@@ -1,5 +1,4 @@
 use Rattle.asm_rows.proofs.OperandLaws.{fourth_laws}
-use borrow.Author.Rules.{rules}
 use Rattle.asm_rows.proofs.after_three.Goals as goal
 
 pub returns-then-piece-eq0 : goal.returns-then-piece-eq0

@@ -1,5 +1,4 @@
 use Rattle.asm_rows.proofs.OperandLaws.{operand_laws}
-use borrow.Author.Rules.{rules}
 use Rattle.asm_rows.proofs.after_two.Goals as goal
 
 pub returns-in-Is : goal.returns-in-Is

@@ -1,5 +1,4 @@
 use Rattle.asm_rows.proofs.RowLaws.{label_laws}
-use borrow.Author.Rules.{rules}
 use Rattle.asm_rows.proofs.label_line.Goals as goal
 
 pub returns-then-piece-ne0 : goal.returns-then-piece-ne0

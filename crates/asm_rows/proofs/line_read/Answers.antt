@@ -1,5 +1,4 @@
 use Rattle.asm_rows.proofs.RowLaws.{line_laws}
-use borrow.Author.Rules.{rules}
 use Rattle.asm_rows.proofs.line_read.Goals as goal
 
 pub returns-then-piece-eq0 : goal.returns-then-piece-eq0

@@ -1,5 +1,4 @@
 use Rattle.asm_rows.proofs.OperandLaws.{piece_laws}
-use borrow.Author.Rules.{rules}
 use Rattle.asm_rows.proofs.piece_at.Goals as goal
 
 pub returns-then-line-at : goal.returns-then-line-at

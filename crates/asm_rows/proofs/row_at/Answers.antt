@@ -1,5 +1,4 @@
 use Rattle.asm_rows.proofs.RowLaws.{row_laws}
-use borrow.Author.Rules.{rules}
 use Rattle.asm_rows.proofs.row_at.Goals as goal
 
 pub returns-then-source-at : goal.returns-then-source-at

@@ -1,8 +1,4 @@
 use Rattle.asm_rows.proofs.EndLaws.{stop_laws}
-use Prim.Native.Nat.{◌-◌}
-use mathlib.Core.Path.{◌≡◌, refl}
-use lib.ListN.{length}
-use Rattle.asm_rows.specs.Found.{stop_at}
 use Rattle.asm_rows.proofs.stop_at.Goals as goal
 
 pub returns-then-b-mark : goal.returns-then-b-mark

@@ -1,6 +1,5 @@
-use Rattle.asm_rows.proofs.EndLaws.{stop_laws}
 use Prim.Native.Nat.{◌-◌}
-use mathlib.Core.Path.{◌≡◌, refl}
+use mathlib.Core.Path.{◌≡◌}
 use lib.ListN.{length}
 use Rattle.asm_rows.specs.Found.{stop_at}
 use Rattle.asm_rows.proofs.stop_at.Given as goal

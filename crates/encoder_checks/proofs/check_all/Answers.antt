@@ -1,5 +1,4 @@
 use Rattle.encoder_checks.proofs.StageLaws.{list_laws}
-use borrow.Author.Rules.{rules}
 use Rattle.encoder_checks.proofs.check_all.Goals as goal
 
 pub returns-in-Refused : goal.returns-in-Refused

@@ -1,6 +1,5 @@
 -- `encoder_checks::check_rows` meets its contract.
 use Rattle.encoder_checks.proofs.StageLaws.{rows_laws}
-use borrow.Author.Rules.{rules}
 use Rattle.encoder_checks.proofs.check_rows.Goals as goal
 
 pub returns-in-Refused : goal.returns-in-Refused

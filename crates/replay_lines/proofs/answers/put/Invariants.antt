@@ -1,7 +1,6 @@
 -- `put` meets its contract.
 use Prim.Native.Nat.{◌-◌}
 use lib.ListN.{length}
-use borrow.Author.Rules.{rules}
 use Rattle.replay_lines.proofs.answers.put.Given as goal
 
 abbrev pub invariant-loop-i : goal.invariant-loop-i

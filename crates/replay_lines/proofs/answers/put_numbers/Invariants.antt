@@ -1,7 +1,6 @@
 -- `put_numbers` meets its contract.
 use Prim.Native.Nat.{◌-◌}
 use lib.ListN.{length}
-use borrow.Author.Rules.{rules}
 use Rattle.replay_lines.proofs.answers.put_numbers.Given as goal
 
 abbrev pub invariant-loop-i : goal.invariant-loop-i

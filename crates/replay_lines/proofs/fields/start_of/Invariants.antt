@@ -1,6 +1,5 @@
 -- `start_of` meets its contract.
 use Prim.Native.Nat.{◌-◌}
-use borrow.Author.Rules.{rules}
 use Rattle.replay_lines.proofs.fields.start_of.Given as goal
 
 abbrev pub invariant-loop-i : goal.invariant-loop-i

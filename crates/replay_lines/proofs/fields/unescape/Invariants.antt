@@ -2,7 +2,6 @@
 use Prim.Native.Nat.{◌-◌}
 use mathlib.Core.Path.{◌≡◌}
 use lib.ListN.{length}
-use borrow.Author.Rules.{rules}
 use Rattle.replay_lines.proofs.fields.unescape.Given as goal
 
 abbrev pub invariant-loop-at : goal.invariant-loop-at

@@ -1,7 +1,6 @@
 -- `last_place` meets its contract.
 use Prim.Native.Nat.{◌-◌}
 use lib.ListN.{length}
-use borrow.Author.Rules.{rules}
 use Rattle.replay_lines.proofs.programs.last_place.Given as goal
 
 abbrev pub invariant-loop-i : goal.invariant-loop-i

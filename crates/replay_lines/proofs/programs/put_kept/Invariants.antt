@@ -1,6 +1,5 @@
 -- `put_kept` meets its contract.
 use Prim.Native.Nat.{◌-◌}
-use borrow.Author.Rules.{rules}
 use Rattle.replay_lines.proofs.programs.put_kept.Given as goal
 
 abbrev pub invariant-loop-i : goal.invariant-loop-i

@@ -1,6 +1,5 @@
 -- `put_run` meets its contract.
 use Prim.Native.Nat.{◌-◌}
-use borrow.Author.Rules.{rules}
 use Rattle.replay_lines.proofs.reading.put_run.Given as goal
 
 abbrev pub invariant-loop-i : goal.invariant-loop-i
