@@ -1,17 +1,17 @@
 -- The chains of a source's label table: there is a cell for each entry, so what is found by them is what the table holds.
-use Prim.Native.Nat.{ℕ, ◌+◌, ◌≤◌}
-use mathlib.Core.Path.{◌≡◌, sym, ap, ◌∙◌}
+use Prim.Native.Nat.{ℕ, ◌≤◌}
+use mathlib.Core.Path.{◌≡◌, ap, ◌∙◌}
 use mathlib.Core.List.{List}
 use native.Mathlib.Omega.{arith}
 use lib.ListN.{length, length-map, replicate}
 use Rattle.text.specs.Answer.{Answer, ok, ◌>>=◌}
-use Rattle.text.proofs.AnswerLaws.{ok_same, ok_bind, if_passed}
+use Rattle.text.proofs.AnswerLaws.{ok_bind, if_passed}
 use Rattle.asm.specs.Rows.{instructions}
 use Rattle.asm.specs.declared.AsmRow.{AsmRow}
 use Rattle.relocate.specs.Labels.{label_rows, entry_of, table_of}
 use Rattle.relocate.specs.Relocate.{sorted_of, tabled}
 use Rattle.relocate.specs.Layout.{measured, layout_rows}
-use Rattle.relocate.specs.Columns.{LookUp, looked_in}
+use Rattle.relocate.specs.Columns.{looked_in}
 use Rattle.relocate.specs.declared.LabelEntry.{LabelEntry}
 use Rattle.relocate.specs.declared.Layout.{Layout}
 use Rattle.relocate_laws.proofs.LengthLaws.{sorted_length}

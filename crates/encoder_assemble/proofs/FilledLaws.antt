@@ -1,5 +1,5 @@
 -- A source whose label table is filled: the stages are document 01's, and the words and hosts written are those of the accepted source.
-use Prim.Native.Nat.{ℕ, ◌+◌, ◌≤◌}
+use Prim.Native.Nat.{ℕ, ◌≤◌}
 use mathlib.Core.Path.{◌≡◌, refl, sym, ap, subst, ◌∙◌}
 use mathlib.Core.List.{List, [], ◌∷◌, ◌++◌, map}
 use mathlib.Core.Bool.{Bool}
@@ -9,7 +9,7 @@ use borrow.Author.Rules.{rules}
 use borrow.Author.Tests.{le-leb, ltb-false, le-ltb}
 use lib.ListN.{length, take, drop, length-map, length-append, length-take}
 use lib.Seq.{sets, length-take-le}
-use Rattle.text.specs.Answer.{Answer, ok, refused, ◌>>=◌, ◌>>◌, over, on_ok}
+use Rattle.text.specs.Answer.{Answer, ok, refused, ◌>>=◌, over, on_ok}
 use Rattle.text.proofs.Laws.{both_false}
 use Rattle.text.proofs.AnswerLaws.{not_ok, ok_same, ok_bind, if_passed, at_passed, sets_over}
 use Rattle.asm.specs.Rows.{instructions}

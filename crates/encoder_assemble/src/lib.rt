@@ -1,5 +1,6 @@
 // Assembling over parallel slices: `encode_to_binary` of assembler/src/encoder.rs, each step a function of its own.
 #![tactic(auto)]
+
 ghost use Rattle.std.specs.Prelude.{◌≡◌, ◌+◌, ◌≤◌, length, take};
 ghost use Rattle.std.proofs.lemmas.List.Edits.{sets};
 ghost use Rattle.relocate.specs.Layout.{sorted_instructions};

@@ -1,6 +1,7 @@
 // Names found quickly in the label table. Its entries are chained by the bucket of their name: `chains` has a cell for each bucket, and after these one for each entry. A
 // bucket's cell holds the place of its last entry, and an entry's cell the place of the entry before it in its bucket, each counted from 1, 0 where there is none.
 #![tactic(auto)]
+
 ghost use Rattle.std.specs.Prelude.{◌≡◌, ◌<◌, ◌≤◌, get_or};
 ghost use Rattle.relocate.specs.Columns.{entries_of};
 ghost use Rattle.relocate_chains.specs.Chains.{bucket_of, chains_left, chained_address};

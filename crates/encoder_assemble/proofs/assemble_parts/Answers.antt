@@ -1,6 +1,5 @@
 -- `assemble_parts` meets its contract: refusals 1 to 7 leave everything as it was, and what follows is the filled table's.
-use Rattle.encoder_assemble.proofs.FilledLaws.{source_refused, source_words, source_hosts, room_measured, source_told, source_wrote, source_hosted, column_room, table_filled}
-use borrow.Author.Rules.{rules}
+use Rattle.encoder_assemble.proofs.FilledLaws.{source_refused, source_words, source_hosts, source_told, source_wrote, source_hosted, column_room, table_filled}
 use Rattle.encoder_assemble.proofs.assemble_parts.Goals as goal
 
 pub returns-in-Refused-clause-result_value : goal.returns-in-Refused-clause-result_value

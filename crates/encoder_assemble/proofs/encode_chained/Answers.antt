@@ -1,6 +1,5 @@
 -- `encode_chained` meets its contract: what is found by the chains is what the label table holds.
 use Rattle.encoder_assemble.proofs.ChainedLaws.{chains_ready}
-use borrow.Author.Rules.{rules}
 use Rattle.encoder_assemble.proofs.encode_chained.Goals as goal
 
 pub encode_filled-requires-clause-chains_value : goal.encode_filled-requires-clause-chains_value

@@ -1,7 +1,6 @@
 -- `encode_filled` meets its contract: a refusal is the stages', and what is written is the accepted source's.
 use mathlib.Core.Path.{refl}
 use Rattle.encoder_assemble.proofs.FilledLaws.{within_source, filled_refused, words_kept, hosts_kept, words_fit, words_written, hosts_written, count_fits, totals_told}
-use borrow.Author.Rules.{rules}
 use Rattle.encoder_assemble.proofs.encode_filled.Goals as goal
 
 pub returns-in-Refused-clause-result_value : goal.returns-in-Refused-clause-result_value

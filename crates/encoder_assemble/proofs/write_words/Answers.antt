@@ -1,14 +1,5 @@
 -- `encoder_assemble::write_words` meets its contract: what was written and the words that are left make all of them.
 use borrow.Author.Rules.{rules}
-use Prim.Native.Nat.{◌+◌, ◌-◌, ◌≤◌}
-use mathlib.Core.Path.{◌≡◌}
-use lib.ListN.{length}
-use lib.Seq.{sets}
-use Rattle.relocate.specs.Layout.{sorted_instructions}
-use Rattle.relocate.specs.Columns.{entries_of}
-use Rattle.relocate_chains.specs.Chains.{chained_address}
-use Rattle.encoder_walks.proofs.LineLaws.{rows_from}
-use Rattle.encoder_assemble.specs.Written.{held_words}
 use Rattle.encoder_assemble.proofs.WriteLaws.{write_laws, room_none}
 use Rattle.encoder_assemble.proofs.write_words.Goals as goal
 

@@ -8,7 +8,6 @@ use Rattle.relocate.specs.Columns.{entries_of}
 use Rattle.relocate_chains.specs.Chains.{chained_address}
 use Rattle.encoder_walks.proofs.LineLaws.{rows_from}
 use Rattle.encoder_assemble.specs.Written.{held_words}
-use Rattle.encoder_assemble.proofs.WriteLaws.{write_laws}
 use Rattle.encoder_assemble.proofs.write_words.Given as goal
 
 abbrev pub invariant-loop-at : goal.invariant-loop-at

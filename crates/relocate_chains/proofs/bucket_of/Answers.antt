@@ -1,8 +1,4 @@
 -- `relocate_chains::bucket_of` meets its contract.
-use Prim.Native.Nat.{◌<◌, ◌≤◌, ◌-◌}
-use mathlib.Core.Path.{◌≡◌}
-use lib.ListN.{length, drop}
-use Rattle.relocate_chains.specs.Chains.{bucket_from, bucket_of}
 use Rattle.relocate_chains.proofs.BucketLaws.{bucket_laws}
 use Rattle.relocate_chains.proofs.bucket_of.Goals as goal
 

@@ -3,7 +3,6 @@ use Prim.Native.Nat.{◌<◌, ◌≤◌, ◌-◌}
 use mathlib.Core.Path.{◌≡◌}
 use lib.ListN.{length, drop}
 use Rattle.relocate_chains.specs.Chains.{bucket_from, bucket_of}
-use Rattle.relocate_chains.proofs.BucketLaws.{bucket_laws}
 use Rattle.relocate_chains.proofs.bucket_of.Given as goal
 
 abbrev pub invariant-loop-i : goal.invariant-loop-i

@@ -1,10 +1,4 @@
 -- `relocate_chains::chain_names` meets its contract.
-use Prim.Native.Nat.{◌≤◌, ◌-◌}
-use mathlib.Core.Path.{◌≡◌}
-use native.Mathlib.Omega.{arith}
-use lib.ListN.{length, drop, length-set}
-use Rattle.relocate.specs.Columns.{entries_of}
-use Rattle.relocate_chains.specs.Chains.{chained}
 use Rattle.relocate_chains.proofs.LinkLaws.{link_more, link_laws}
 use Rattle.relocate_chains.proofs.chain_names.Goals as goal
 

@@ -1,9 +1,4 @@
 -- `relocate_chains::chained_address` meets its contract.
-use Prim.Native.Nat.{◌≤◌}
-use mathlib.Core.Path.{◌≡◌}
-use lib.ListN.{length}
-use Rattle.relocate.specs.Columns.{entries_of}
-use Rattle.relocate_chains.specs.Chains.{sought_from, chained_address}
 use Rattle.relocate_chains.proofs.SearchLaws.{chained_laws}
 use Rattle.relocate_chains.proofs.chained_address.Goals as goal
 

@@ -4,7 +4,6 @@ use mathlib.Core.Path.{◌≡◌}
 use lib.ListN.{length}
 use Rattle.relocate.specs.Columns.{entries_of}
 use Rattle.relocate_chains.specs.Chains.{sought_from, chained_address}
-use Rattle.relocate_chains.proofs.SearchLaws.{chained_laws}
 use Rattle.relocate_chains.proofs.chained_address.Given as goal
 
 abbrev pub invariant-loop-at : goal.invariant-loop-at
