@@ -1,4 +1,6 @@
 // Assembling with a label table of the function's own: what `assemble` over a lent slice of entries works on.
+#![tactic(auto)]
+
 ghost use Rattle.std.specs.Prelude.{◌≡◌, ◌≤◌, min, length};
 ghost use Rattle.encoder.specs.Assemble.{numbered, assembled, assembled_totals, words_left, hosts_left};
 

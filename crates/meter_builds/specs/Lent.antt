@@ -1,6 +1,6 @@
 -- What is lent to a build over parallel slices, by names: the columns of the label table, the room, and what all of it holds afterwards.
 use Rattle.std.specs.Prelude.{ℕ, List, Bool, length}
-use Rattle.std.specs.Borrow.{Bor}
+use Rattle.std.specs.Borrow.{MutBor}
 use Rattle.relocate.specs.Relocate.{tabled}
 use Rattle.relocate.specs.Columns.{column_left, kind_of, mapped_of, start_of, length_of, address_in}
 use Rattle.relocate_names.specs.Shortest.{shortest_of}
@@ -21,7 +21,7 @@ pub record Lent : Type 0 where
   pub hosts : List ℕ
 
 -- what the slices hold
-abbrev pub lent_in : Bor (List ℕ) → Bor (List Bool) → Bor (List ℕ) → Bor (List ℕ) → Bor (List ℕ) → Bor (List ℕ) → Bor (List ℕ) → Lent
+abbrev pub lent_in : MutBor (List ℕ) → MutBor (List Bool) → MutBor (List ℕ) → MutBor (List ℕ) → MutBor (List ℕ) → MutBor (List ℕ) → MutBor (List ℕ) → Lent
 lent_in kinds mapped starts lengths addresses words hosts = record {
   table = record { kinds = kinds.now; mapped = mapped.now; starts = starts.now; lengths = lengths.now; addresses = addresses.now };
   words = words.now;

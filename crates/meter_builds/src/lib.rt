@@ -1,4 +1,6 @@
 // A build on a meter: assembling over parallel slices, and the meter after it.
+#![tactic(auto)]
+
 ghost use Rattle.std.specs.Prelude.{◌≡◌};
 ghost use Rattle.encoder.specs.Assemble.{numbered, assembled, assembled_totals};
 ghost use Rattle.meter.specs.Meter.{meter_after};
