@@ -1,5 +1,6 @@
 // Assembling over a lent slice of label entries: a thin walk by hand over covered functions.
 #![tactic(auto)]
+
 ghost use Rattle.std.specs.Prelude.{◌≡◌, length};
 ghost use Rattle.relocate.specs.Columns.{table_left};
 ghost use Rattle.encoder.specs.Assemble.{numbered, assembled, assembled_totals, words_left, hosts_left};

@@ -1,5 +1,6 @@
 // What the printing program prints, written into a lent text: `printing` of crate encoder's definitions.
 #![tactic(auto)]
+
 ghost use Rattle.std.specs.Prelude.{◌≡◌, ◌≤◌, length};
 ghost use Rattle.encoder.specs.Printing.{printing};
 ghost use Rattle.encoder_report.specs.Printed.{printed_numbered, printed_count, printed_into};

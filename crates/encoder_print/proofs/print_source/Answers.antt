@@ -1,6 +1,6 @@
 -- `print_source` meets its contract.
 use mathlib.Core.Path.{refl}
-use Rattle.encoder_print.proofs.SourceLaws.{long_laws, left_within, room_is, source_printed}
+use Rattle.encoder_print.proofs.SourceLaws.{long_laws, left_within, source_printed}
 use borrow.Author.Rules.{rules}
 use Rattle.encoder_print.proofs.print_source.Goals as goal
 
