@@ -1,6 +1,6 @@
 -- Laws of the exported functions: what a callee's answer is, its numbers are.
 use Prim.Native.Nat.{ℕ}
-use mathlib.Core.Path.{◌≡◌, refl, ap, ◌∙◌}
+use mathlib.Core.Path.{◌≡◌, ap, ◌∙◌}
 use mathlib.Core.List.{List}
 use borrow.Author.Rules.{rules}
 use lib.ListN.{length}
@@ -38,7 +38,6 @@ use Rattle.ola_answers.specs.declared.OlaAssembly.{OlaAssembly}
 use Rattle.ola_answers.specs.declared.OlaMetered.{OlaMetered}
 use Rattle.ola_answers.specs.declared.OlaWritten.{OlaWritten}
 use Rattle.ola_answers.specs.declared.OlaEncoding.{OlaEncoding}
-use Rattle.ola_answers.specs.declared.OlaName.{OlaName}
 use Rattle.ola_answers.specs.declared.OlaRoom.{OlaRoom}
 use Rattle.ola_steps.specs.Steps.{opened_of, step_of}
 use Rattle.ola_steps.specs.declared.OlaOpened.{OlaOpened}

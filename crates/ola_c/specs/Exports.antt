@@ -1,10 +1,9 @@
 -- What the exported functions answer and leave, where an instruction is given as numbers: 255, which is this interface's own, where they name none.
 use Rattle.std.specs.Prelude.{ℕ, List, length}
-use Rattle.text.specs.Answer.{Answer, ok, refused}
+use Rattle.text.specs.Answer.{Answer, refused}
 use Rattle.program.specs.Words.{encoded}
 use Rattle.program.specs.Bytecode.{text_left}
 use Rattle.program.specs.Listing.{row_written}
-use Rattle.program.specs.declared.BinaryInstruction.{BinaryInstruction}
 use Rattle.program_bytecode.specs.Written.{count_of}
 use Rattle.decoder.specs.Steps.{Stepped, SteppedAt}
 use Rattle.ola_places.specs.declared.InstructionNamed.{InstructionNamed}

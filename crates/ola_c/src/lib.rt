@@ -1,5 +1,6 @@
 // The C interface: include/ola.h declares these functions, and ola_c_c exports them. Nothing but conversions.
 #![tactic(auto)]
+
 ghost use Rattle.std.specs.Prelude.{◌≡◌, length};
 ghost use Rattle.asm.specs.Parts.{name_part};
 ghost use Rattle.relocate.specs.Relocate.{tabled};

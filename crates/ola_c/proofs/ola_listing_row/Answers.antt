@@ -1,6 +1,5 @@
 -- `ola_listing_row` meets its contract.
 use Rattle.ola_c.proofs.Laws.{listing_laws}
-use borrow.Author.Rules.{rules}
 use Rattle.ola_c.proofs.ola_listing_row.Goals as goal
 
 pub returns-in-Nothing-clause-value : goal.returns-in-Nothing-clause-value
