@@ -1,4 +1,4 @@
-// Assembling over a lent slice of label entries: a thin walk by hand over covered functions.
+// Assembling over a lent slice of label entries, over functions on parallel slices.
 #![tactic(auto)]
 
 ghost use Rattle.std.specs.Prelude.{◌≡◌, length};

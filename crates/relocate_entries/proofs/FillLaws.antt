@@ -1,4 +1,4 @@
--- What the walk by hand of `fill_entries` says of truth values, of numbers, and of a table that is filled up to some entry.
+-- Truth values, numbers, and a table that is filled up to some entry: what `fill_entries` keeps.
 use mathlib.Core.Path.{◌≡◌, refl, ap, ◌∙◌}
 use mathlib.Core.Bool.{Bool, true, false}
 use Prim.Native.Nat.{ℕ, zero, suc, ◌+◌, ◌-◌, ◌<◌}
