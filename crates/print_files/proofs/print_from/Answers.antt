@@ -1,5 +1,5 @@
 -- What was printed lies within the text.
-use Rattle.std.proofs.Common.{◌≤◌, length, sym, length-take-le, arith}
+use Rattle.std.proofs.Common.{sym, length-take-le, arith}
 use Rattle.encoder_print.proofs.SourceLaws.{printed_within}
 use Rattle.print_files.proofs.print_from.Goals as goal
 
