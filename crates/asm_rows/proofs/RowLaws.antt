@@ -1,5 +1,8 @@
 -- Laws of the row reader: the row that pieces make, and the line of a source that starts at a place.
-use Prim.Native.Nat.{ℕ, ◌+◌, ◌^◌, ◌<◌, ◌≤◌}
+use Rattle.text.specs.declared.ByteClass.TheVariants.{IsNot}
+use Rattle.text.specs.Classes.{holds}
+use mathlib.Core.Bool.{Bool}
+use Prim.Native.Nat.{ℕ, ◌+◌, ◌^◌, ◌<◌, ◌≤◌, ◌-◌}
 use mathlib.Core.Path.{◌≡◌, refl, sym, ap, ◌∙◌}
 use mathlib.Core.List.{List, [], ◌∷◌}
 use mathlib.Core.Option.{Option, none, some}
@@ -12,13 +15,13 @@ use lib.Seq.{length-take-le, take-take}
 use Rattle.text.specs.Scan.{scan, parts}
 use Rattle.text.specs.Lines.{not_feed, line_next}
 use Rattle.text.specs.declared.Piece.{Piece}
-use Rattle.text.proofs.Laws.{scan_le, part_counts}
+use Rattle.text.proofs.Laws.{scan_le, part_counts, part_from}
 use Rattle.text.proofs.PartLaws.{line_ended, line_last}
 use Rattle.vm_opcodes.specs.declared.OlaOpcode.{OlaOpcode}
 use Rattle.vm_opcodes.specs.declared.OpcodeFound.{OpcodeFound}
 use Rattle.vm_opcodes.specs.declared.OpcodeFound.TheVariants.{Is as IsOpcode, Nothing as NoOpcode}
 use Rattle.vm_mnemonics.specs.Mnemonics.{operation_of}
-use Rattle.asm.specs.Parts.{Part, placed, filled_parts, pieces_from, line_pieces, line_at, next_line}
+use Rattle.asm.specs.Parts.{Part, placed, filled_parts, pieces_from, line_pieces, line_at, next_line, without_comment}
 use Rattle.asm.specs.Rows.{arranged_if, label_row, or_else_row, row_of, of_row, line_of, row_at}
 use Rattle.asm.specs.declared.AsmRow.{AsmRow}
 use Rattle.asm.specs.declared.RowRead.{RowRead}
@@ -158,5 +161,79 @@ module _ (s : List ℕ) (i : ℕ) (w : LineEnds) (e : w ≡ line_ends s i) where
         let m : r ≡ line_of (line_pieces (line_at s i)) = g ∙ ap line_of code_pieces in
         let o : w.feed + 1 ≡ next_line s i = omega arith in
         cc
+
+-- ---- the same of two scans, one for the line feed and one for the comment
+
+module _ (s : List ℕ) (i a : ℕ) (e : a ≡ scan (holds (IsNot 10)) (take (length s - i) (drop i s))) where
+  scanned_feed_at : a ≡ scan not_feed (drop i s)
+  scanned_feed_at = e ∙ ap (scan not_feed) (part_from i s)
+
+  scanned_feed_le : a ≤ length (drop i s)
+  scanned_feed_le = let w = scan_le not_feed (drop i s) in let k = scanned_feed_at in omega arith
+
+  -- the line's end lies within the source
+  pub scanned_feed_within : i < length s → i + a ≤ length s
+  scanned_feed_within h = let k = length-drop i s in let w = scanned_feed_le in omega arith
+
+  pub scanned_feed_fits : i < length s → length s < 2 ^ 64 → Fits w64 (i + a)
+  scanned_feed_fits h f = let k = scanned_feed_within h in omega arith
+
+  pub scanned_next_fits : i < length s → length s < 2 ^ 64 → (i + a ≡ length s → ⊥) → Fits w64 (i + a + 1)
+  scanned_next_fits h f g = let k = scanned_feed_within h in omega arith
+
+-- what stands in the line up to the first byte that fails a test
+module _ (s : List ℕ) (i a b : ℕ) (p : ℕ → Bool) (e : a ≡ scan (holds (IsNot 10)) (take (length s - i) (drop i s))) (f : b ≡ scan p (take (i + a - i) (drop i s))) where
+  scanned_code_at : b ≡ scan p (take a (drop i s))
+  scanned_code_at = let n : i + a - i ≡ a = omega arith in f ∙ ap (λ (n : ℕ). scan p (take n (drop i s))) n
+
+  scanned_code_le : b ≤ a
+  scanned_code_le =
+      let w = scan_le p (take a (drop i s)) in
+      let k = length-take-le a (drop i s) (scanned_feed_le s i a e) in
+      let c = scanned_code_at in
+      omega arith
+
+  pub scanned_code_within : i < length s → i + b ≤ length s
+  scanned_code_within h = let k = scanned_feed_within s i a e h in let w = scanned_code_le in omega arith
+
+  pub scanned_code_fits : i < length s → length s < 2 ^ 64 → Fits w64 (i + b)
+  scanned_code_fits h g = let k = scanned_code_within h in omega arith
+
+  -- it has as many bytes
+  pub scanned_code_counts : i < length s → i + b ≡ length (take (i + b) s)
+  scanned_code_counts h = sym (length-take-le (i + b) s (scanned_code_within h))
+
+module _ (s : List ℕ) (i a b : ℕ) (e : a ≡ scan (holds (IsNot 10)) (take (length s - i) (drop i s))) (f : b ≡ scan (holds (IsNot 59)) (take (i + a - i) (drop i s))) where
+  -- what stands up to the end of the line's code has the line's pieces from place i on
+  scanned_code_pieces : pieces_from i (drop i (take (i + b) s)) ≡ line_pieces (line_at s i)
+  unfolding line_pieces
+  scanned_code_pieces =
+      ap (pieces_from i)
+      (part_taken i b s
+      ∙ sym (take-take b a (drop i s) (scanned_code_le s i a b (holds (IsNot 59)) e f))
+      ∙ ap (λ (n : ℕ). take n (take a (drop i s))) (scanned_code_at s i a b (holds (IsNot 59)) e f)
+      ∙ ap (λ (n : ℕ). without_comment (take n (drop i s))) (scanned_feed_at s i a e))
+
+  module _ (r : LineRead) (g : r ≡ line_of (pieces_from i (drop i (take (i + b) s)))) where
+    pub scanned_row_last : i < length s → i + a ≡ length s → record { read = r; next = i + a } ≡ row_at s i
+    scanned_row_last h k =
+        let d = length-drop i s in
+        let c = (scanned_feed_at s i a e) in
+        let n : line_next (drop i s) ≡ a = (line_last (drop i s) (omega arith)).1 ∙ sym (scanned_feed_at s i a e) in
+        let m : r ≡ line_of (line_pieces (line_at s i)) = g ∙ ap line_of scanned_code_pieces in
+        let o : i + a ≡ next_line s i = ap (λ (x : ℕ). i + x) (sym n) in
+        cc
+
+    pub scanned_row_ended : i < length s → (i + a ≡ length s → ⊥) → record { read = r; next = i + a + 1 } ≡ row_at s i
+    scanned_row_ended h k =
+        let d = length-drop i s in
+        let c = (scanned_feed_at s i a e) in
+        let w = (scanned_feed_le s i a e) in
+        let n : line_next (drop i s) ≡ a + 1 = (line_ended (drop i s) (omega arith)).1 ∙ ap (λ (x : ℕ). x + 1) (sym (scanned_feed_at s i a e)) in
+        let m : r ≡ line_of (line_pieces (line_at s i)) = g ∙ ap line_of scanned_code_pieces in
+        let o : i + a + 1 ≡ next_line s i = omega arith in
+        cc
+
+pub ruleset scanned_laws = (row_past, scanned_feed_within, scanned_feed_fits, scanned_next_fits, scanned_code_within, scanned_code_fits, scanned_code_counts, scanned_row_last, scanned_row_ended, rules)
 
 pub ruleset row_laws = (row_past, next_fits, code_counts, row_last, row_ended, rules)

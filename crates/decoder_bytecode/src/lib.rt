@@ -7,21 +7,21 @@ ghost use Rattle.decoder_bytecode.specs.Forms.{open_form, open_of, step_form, st
 use decoder::{Found, Opening};
 
 // An opened bytecode: the caller's text and the line reached.
-#[derive(Drop)]
+#[derive(Clone, Copy)]
 pub struct Bytecode<'a> {
     pub text: &'a [u8],
     pub line: usize,
 }
 
 // Whether a text opened, and the reader at its first line.
-#[derive(Drop)]
+#[derive(Clone, Copy)]
 pub struct Opened<'a> {
     pub opening: Opening,
     pub bytecode: Bytecode<'a>,
 }
 
 // What a call found, and the reader: the same one after a refusal.
-#[derive(Drop)]
+#[derive(Clone, Copy)]
 pub struct Step<'a> {
     pub found: Found,
     pub bytecode: Bytecode<'a>,

@@ -29,8 +29,8 @@ use Rattle.encoder.specs.Assemble.{Room, Accepted, assembled}
 use Rattle.encoder.proofs.RowWordLaws.{rows_length}
 use Rattle.encoder.proofs.AcceptedLaws.{tabled_sorted, accepted_rows}
 use Rattle.promises.specs.Terms.{operand_at, content_at, Stands, IsPosition, IsPositionBefore, HoldsPosition}
-use Rattle.promises.specs.TieLaws.{left_front}
-use Rattle.promises.specs.NameLaws.{HoldsCount, lengths_agree, addresses_are_words, names_are_word_counts}
+use Rattle.promises.proofs.TieLaws.{left_front}
+use Rattle.promises.proofs.NameLaws.{HoldsCount, lengths_agree, addresses_are_words, names_are_word_counts}
 use Rattle.promises.specs.AcceptedLaws.{accepted_words, accepted_form, accepted_shaped}
 
 -- the address of a mapped row of a kind

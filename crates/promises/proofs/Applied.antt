@@ -47,7 +47,7 @@ use Rattle.decoder.specs.Open.{opened, run}
 use Rattle.decoder.specs.Steps.{run_at, nth_call}
 use Rattle.promises.specs.Terms.{content_at, Stands, IsPosition, IsPositionBefore, HoldsPosition, IsKept}
 use Rattle.promises.specs.Starred.{plenty, printing_source}
-use Rattle.promises.specs.Promises.{counts_answered, words_left_lem, table_left_lem, columns_left_lem, bytecode_left, room_is_built, counted_is_words, room_refused, room_suffices, room_never_short, run_by_offsets, nth_reads, one_program, bytecode_opens, run_reads, words_ahead, accepted_has_rows, lengths_are_one, addresses_are_positions, instructions_stand, names_are_word_counts, table_is_positions, later_kept, kept_counted, rows_by_lines_lem, same_lines}
+use Rattle.promises.proofs.Promises.{counts_answered, words_left_lem, table_left_lem, columns_left_lem, bytecode_left, room_is_built, counted_is_words, room_refused, room_suffices, room_never_short, run_by_offsets, nth_reads, one_program, bytecode_opens, run_reads, words_ahead, accepted_has_rows, lengths_are_one, addresses_are_positions, instructions_stand, names_are_word_counts, table_is_positions, later_kept, kept_counted, rows_by_lines_lem, same_lines}
 
 -- ---- the printing source
 

@@ -15,10 +15,10 @@ use Rattle.encoder.specs.Assemble.{Room, Accepted, assembled}
 use Rattle.decoder.specs.Open.{opened}
 use Rattle.source.specs.SourceText.{spaced_all, source_text, is_off_row, first_off_row, source_written}
 use Rattle.promises.specs.Starred.{plenty, printing_source}
-use Rattle.promises.specs.SourcePromise.{no_prophets}
-use Rattle.promises.specs.Promises.{source_left, source_refused, first_off_row_lem, source_written_lem, source_fits, source_assembles, source_words_fit, source_reads_again, no_row_reads_so, source_of_accepted, source_same_words}
-use Rattle.promises.specs.Applied.{printing_program, printing_accepted, printing_accepted_lem, printing_opens}
-use Rattle.promises.specs.AppliedBytecode.{strange, strange_read, strange_opens}
+use Rattle.promises.proofs.SourcePromise.{no_prophets}
+use Rattle.promises.proofs.Promises.{source_left, source_refused, first_off_row_lem, source_written_lem, source_fits, source_assembles, source_words_fit, source_reads_again, no_row_reads_so, source_of_accepted, source_same_words}
+use Rattle.promises.proofs.Applied.{printing_program, printing_accepted, printing_accepted_lem, printing_opens}
+use Rattle.promises.proofs.AppliedBytecode.{strange, strange_read, strange_opens}
 
 -- ---- the printing source
 

@@ -22,7 +22,7 @@ use Rattle.encoder.specs.Assemble.{encoded_rows, assembled}
 use Rattle.meter.specs.Meter.{Build, built_of, added, total_of, at_start, meter_after, played}
 use Rattle.meter.specs.declared.Meter.{Meter}
 use Rattle.promises.specs.Starred.{plenty, printing_source}
-use Rattle.promises.specs.Promises.{meter_counts, meter_from, meter_kept}
+use Rattle.promises.proofs.Promises.{meter_counts, meter_from, meter_kept}
 
 abbrev build : List ℕ → Build
 build s = record { source = s; prophets = []; room = plenty }

@@ -23,7 +23,7 @@ use Rattle.encoder.specs.Assemble.{Room, Accepted, encoded_rows, assembled}
 use Rattle.encoder.proofs.RowWordLaws.{rows_words, program_words_lem, rows_length}
 use Rattle.encoder.proofs.AcceptedLaws.{accepted_rows}
 use Rattle.promises.specs.LateLaws.{Late, ok_late, no_late, bind_late, if_late, at_late, head_late, hosts_late, program_late}
-use Rattle.promises.specs.NamePromise.{of_rows, lengths_one}
+use Rattle.promises.proofs.NamePromise.{of_rows, lengths_one}
 
 -- ---- an accepted source
 

@@ -24,7 +24,7 @@ use Rattle.source_laws.proofs.AssembledLaws.{source_text_assembles}
 use Rattle.source_laws.proofs.AgainLaws.{read_again}
 use Rattle.source_laws.proofs.CanonicalLaws.{text_as_canonical, all_order_as_canonical, all_on_as_canonical, text_as_read, all_on_as_read}
 use Rattle.source_laws.proofs.OffRowLaws.{none_off_row, on_rows_written, written_source, no_row_reads_so}
-use Rattle.promises.specs.TieLaws.{left_front}
+use Rattle.promises.proofs.TieLaws.{left_front}
 use Rattle.promises.specs.AcceptedLaws.{accepted_form, accepted_order, accepted_words, accepted_readable, accepted_short}
 
 -- rows of instructions of canonical form, with numbers below p and nothing off their rows, read back

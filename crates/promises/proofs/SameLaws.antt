@@ -12,7 +12,7 @@ use Rattle.encoder.proofs.AcceptedLaws.{AcceptedRows, accepted_rows}
 use Rattle.decoder.specs.Open.{opened}
 use Rattle.decoder.proofs.BytecodeLaws.{opens}
 use Rattle.promises.specs.Terms.{SameProgram, instruction_residue}
-use Rattle.promises.specs.InjectiveLaws.{programs_determine, as_read_programs, residues_same}
+use Rattle.promises.proofs.InjectiveLaws.{programs_determine, as_read_programs, residues_same}
 use Rattle.promises.specs.AcceptedLaws.{accepted_form, accepted_order, accepted_words, accepted_readable, accepted_short}
 
 module _ (s t prophets others : List ℕ) (room space : Room) (a b : Accepted) (h : assembled s prophets room ≡ ok a) (k : assembled t others space ≡ ok b) where

@@ -50,12 +50,12 @@ use Rattle.source_laws.proofs.OffRowLaws.{first_off_row_lem as first_off, none_o
 use Rattle.source_laws.proofs.LengthLaws.{source_within, source_most}
 use Rattle.source_laws.proofs.AgainLaws.{words_by_lines}
 use Rattle.promises.specs.Terms.{SameProgram, operand_at, content_at, Stands, IsPosition, IsPositionBefore, HoldsPosition, IsKept, rows_by_lines}
-use Rattle.promises.specs.TieLaws.{left_front, bytecode_fits, nth_answer, lines_read}
-use Rattle.promises.specs.SameLaws.{words_same, bytecode_same, program_alone}
+use Rattle.promises.proofs.TieLaws.{left_front, bytecode_fits, nth_answer, lines_read}
+use Rattle.promises.proofs.SameLaws.{words_same, bytecode_same, program_alone}
 use Rattle.promises.specs.AcceptedLaws.{accepted_words, accepted_readable, accepted_short, accepted_form}
-use Rattle.promises.specs.NamePromise.{rows_there, stands, lengths_one, address_words, names_counted, entries_left, column_left_lem, table_positions}
-use Rattle.promises.specs.RoomLaws.{room_built, counted_words, refused_so, room_enough, room_late}
-use Rattle.promises.specs.SourcePromise.{left_written, left_refused, written_assembles, written_again, accepted_written, written_same}
+use Rattle.promises.proofs.NamePromise.{rows_there, stands, lengths_one, address_words, names_counted, entries_left, column_left_lem, table_positions}
+use Rattle.promises.proofs.RoomLaws.{room_built, counted_words, refused_so, room_enough, room_late}
+use Rattle.promises.proofs.SourcePromise.{left_written, left_refused, written_assembles, written_again, accepted_written, written_same}
 
 -- What a caller holds after an accepted call.
 module _ (s prophets : List ℕ) (room : Room) (a : Accepted) (h : assembled s prophets room ≡ ok a) where

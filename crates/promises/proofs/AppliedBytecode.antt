@@ -20,7 +20,7 @@ use Rattle.program.specs.CanonicalForm.{CanonicalForm, InOrder}
 use Rattle.decoder.specs.Lines.{complete_of, first_unreadable}
 use Rattle.decoder.specs.Decode.{built_with, on_number, on_operation, on_first}
 use Rattle.decoder.specs.Open.{all_decoded, opened, run}
-use Rattle.promises.specs.Promises.{opened_run, opened_form}
+use Rattle.promises.proofs.Promises.{opened_run, opened_form}
 
 -- document 01's ret with the bits of r1 and r2 in dst, a mov without a source, a call whose number is decimal, and a call without its number
 abbrev pub strange : List ℕ

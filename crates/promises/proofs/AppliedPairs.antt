@@ -29,7 +29,7 @@ use Rattle.encoder.specs.Canonical.{general, memory, canonical_by, canonical_fro
 use Rattle.encoder.specs.Assemble.{Accepted, encoded_rows, assembled}
 use Rattle.promises.specs.Terms.{SameProgram}
 use Rattle.promises.specs.Starred.{plenty}
-use Rattle.promises.specs.Promises.{same_words, same_bytecode}
+use Rattle.promises.proofs.Promises.{same_words, same_bytecode}
 
 -- ---- one contract and two
 

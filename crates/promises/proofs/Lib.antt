@@ -1,0 +1,13 @@
+pub mod InjectiveLaws
+pub mod NameLaws
+pub mod TieLaws
+pub mod SameLaws
+pub mod NamePromise
+pub mod RoomLaws
+pub mod SourcePromise
+pub mod Promises
+pub mod Applied
+pub mod AppliedPairs
+pub mod AppliedBytecode
+pub mod AppliedBuilds
+pub mod AppliedSource
