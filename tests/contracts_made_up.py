@@ -150,6 +150,41 @@ kind_unlisted Third = 2
 unfoldable pub good : ℕ → ℕ
 good n = half n
 """,
+    'crates/made/specs/Std.antt': """
+use Rattle.std.specs.Prelude.{ℕ, Option, Some, None, Result, Ok, Err, ⊤}
+use Rattle.text.specs.Answer.{Answer, ok, refused}
+use Rattle.made.specs.Why.{why_number, why_detail}
+
+-- whole: both cases, and a unit keeps nothing back
+abbrev pub done_told : Result ⊤ Why → Answer (Unit {0})
+done_told (Ok tt) = ok tt
+done_told (Err why) = refused (why_number why) (why_detail why)
+
+abbrev pub counted_told : Result (Option ℕ) Why → Answer ℕ
+counted_told (Ok None) = refused 4 tt
+counted_told (Ok (Some n)) = ok n
+counted_told (Err why) = refused (why_number why) (why_detail why)
+
+-- what was counted is lost
+abbrev pub counted_half : Result (Option ℕ) Why → Answer ℕ
+counted_half (Ok None) = refused 4 tt
+counted_half (Ok (Some n)) = ok (half n)
+counted_half (Err why) = refused (why_number why) (why_detail why)
+
+-- nothing counted is an answer of the refusal too
+abbrev pub counted_merged : Result (Option ℕ) Why → Answer ℕ
+counted_merged (Ok None) = refused 1 tt
+counted_merged (Ok (Some n)) = ok n
+counted_merged (Err why) = refused (why_number why) (why_detail why)
+
+-- the place is lost
+abbrev pub place_told : Option ℕ → Answer ℕ
+place_told (Some n) = ok 0
+place_told None = refused 4 0
+
+abbrev pub place_lacks : Option ℕ → Answer ℕ
+place_lacks (Some n) = ok n
+""",
     'crates/made/specs/Other.antt': """
 use Rattle.std.specs.Borrow.{Bor}
 
@@ -185,6 +220,8 @@ why_line (NoPlace line column) = line.0
 """,
     'crates/made/src/right.rt': """
 use made::Step;
+ghost use Rattle.std.specs.Prelude.{◌≡◌, Some};
+ghost use Rattle.made.specs.Std.{done_told, counted_told};
 ghost use Rattle.made.specs.Maps.{read_told, step_told, kind_told, points, both_hold, good, good as fine};
 pub fn plain(x: u8) -> u8
     ensures { result ≡ good x }
@@ -214,6 +251,18 @@ pub fn reference<'a>(text: &'a [u8]) -> &'a [u8]
 pub fn reference_itself<'a>(text: &'a [u8]) -> &'a [u8]
     ensures { result ≡ good text.entry }
 { text }
+pub fn done(x: u8) -> Result<(), Why>
+    ensures { done_told result ≡ good x }
+{ x }
+pub fn word(x: u8) -> &'static [u8]
+    ensures { result.now ≡ good x }
+{ x }
+pub fn counted(x: u8, y: Result<u8, Option<u8>>) -> Result<Option<usize>, Why>
+    ensures { counted_told result ≡ good x }
+{ x }
+pub fn somewhere(x: u8) -> Option<usize>
+    ensures { result ≡ Some (good x) }
+{ x }
 """,
     'crates/made/src/below/wrong.rt': """
 use made::Read;
@@ -222,8 +271,41 @@ ghost use Rattle.std.specs.Prelude.{◌≡◌, ltb, length, OnOk};
 ghost use Rattle.made.specs.Maps.{good, read_told, read_merged, read_line_only, read_wild, step_forgets, step_halves, points, both_hold, first_holds, second_points};
 ghost use Rattle.made.specs.Maps.{kind_wild, kind_merged, kind_lacks, kind_unlisted, kind_numerals, kind_alias, kind_hidden, read_literal};
 ghost use Rattle.made.specs.Other.{both_point};
+ghost use Rattle.made.specs.Std.{counted_half, counted_merged, place_told, place_lacks, done_told};
 use made::Left;
 use made::Within;
+// the result .Ok.0 .Some.0 is left unsaid
+pub fn counted_by_half(x: u8) -> Result<Option<usize>, Why>
+    ensures { counted_half result ≡ good x }
+{ x }
+// the cases Ok None and Err TooLong are merged
+pub fn none_as_refused(x: u8) -> Result<Option<usize>, Why>
+    ensures { counted_merged result ≡ good x }
+{ x }
+// the result .Some.0 is left unsaid
+pub fn somewhere_only(x: u8) -> Option<usize>
+    ensures { place_told result ≡ good x }
+{ x }
+// `place_lacks` has no clause for a case
+pub fn nowhere_untold(x: u8) -> Option<usize>
+    ensures { place_lacks result ≡ good x }
+{ x }
+// nothing is said of the result
+pub fn word_unsaid(x: u8) -> &'static [u8]
+    ensures { x ≡ good x }
+{ x }
+// the reference is left unsaid: the result .ref_ptr
+pub fn word_lent<'a>(x: &'a [u8]) -> &'a [u8]
+    ensures { result.now ≡ good x }
+{ x }
+// the result is no Result
+pub fn option_as_result(x: u8) -> Option<usize>
+    ensures { done_told result ≡ good x }
+{ x }
+// `Some` is no name of specs/
+pub fn some_unknown(x: u8) -> Option<usize>
+    ensures { result ≡ Some (good x) }
+{ x }
 // nothing is said of the result
 pub fn unsaid(x: u8) -> u8 { x }
 // it has a requires
@@ -420,6 +502,14 @@ FILES = [
     ('type Bytes<\'a> = &\'a mut [u8];', 'a type has another name'),
     ('trait T { fn f(&self); }', 'a trait'),
     ('impl T for Z { fn f(&self) {} }', 'a trait'),
+    ('trait T { fn f(&self) -> u8 ensures { result ≡ good 1 } ; fn g(&self); }', 'a trait'),
+    ('trait T { fn f(&self) -> u8 requires { 0 < 1 } ensures { result ≡ good 1 }; }', 'a trait'),
+    ('pub trait T: Sized { ghost told: { ℕ }; fn f(&self) -> u8 ensures { result ≡ told } { 1 } const K: u8; }', None),
+    ('impl Told for Z { ghost told = { 1 }; const K: u8 = 1; fn f(&self) -> u8 { 1 } }', None),
+    ('impl<T: Told> Told for Z<T> { fn f(&self) -> u8 { 1 } }', None),
+    ('impl Told for Z { fn f(&self) -> u8 ensures { result ≡ good 1 } { 1 } }', 'a trait'),
+    ('impl From<A> for B { fn from(a: A) -> B { B } }', 'a trait'),
+    ('impl Model for Z { ghost view = { λ r. r.at }; ghost invariant = { λ r. r.at ≤ 1 }; }', None),
     ('#[unsafe(no_mangle)]\nextern "C" fn f() {}', 'an export that is not pub'),
     ('#[unsafe(no_mangle)]\npub extern "C" fn f() {}', None),
     ('#[derive(Clone, Copy)]\npub struct S { }', None),
@@ -428,7 +518,7 @@ FILES = [
     ('pub default fn f() {}', 'a public function of a form that is not read'),
 ]
 
-MADE_UP_MAPS = {f'made.{module}.{name}' for module in ('Maps', 'Other') for name in re.findall(r'abbrev pub (\w+)', MADE_UP[f'crates/made/specs/{module}.antt'])}
+MADE_UP_MAPS = {f'made.{module}.{name}' for module in ('Maps', 'Other', 'Std') for name in re.findall(r'abbrev pub (\w+)', MADE_UP[f'crates/made/specs/{module}.antt'])}
 MADE_UP_MAPS -= {'made.Maps.kind_unlisted'}
 
 SHARED = {

@@ -1,14 +1,11 @@
 -- Rows: label rows, and instruction rows with "Operand counts and places ... those of `split_ola_asm_pieces`".
-use Rattle.std.specs.Prelude.{ℕ, suc, ◌+◌, ◌-◌, List, [], ◌∷◌, Bool, ◌&&◌, ◌||◌, cond, ltb, length, drop}
-use Rattle.std.proofs.Math.Option.{Option, none, some}
+use Rattle.std.specs.Prelude.{ℕ, suc, ◌+◌, ◌-◌, List, [], ◌∷◌, Bool, ◌&&◌, ◌||◌, cond, ltb, length, drop, Option, Some, None}
 use Rattle.std.proofs.Math.Seq.{slice}
 use Rattle.text.specs.Bytes.{bytes, is_digit, is_word, same}
 use Rattle.text.specs.Scan.{scan}
 use Rattle.text.specs.Answer.{Answer, ok, refused, ◌>>=◌}
 use Rattle.vm_opcodes.specs.Operations.{row_places}
 use Rattle.vm_opcodes.specs.declared.OlaOpcode.{OlaOpcode}
-use Rattle.vm_opcodes.specs.declared.OpcodeFound.{OpcodeFound}
-use Rattle.vm_opcodes.specs.declared.OpcodeFound.TheVariants.{Is as IsOpcode, Nothing as NoOpcode}
 use Rattle.vm_opcodes.specs.declared.RowPlaces.{RowPlaces}
 use Rattle.vm_opcodes.specs.declared.RowPlaces.TheVariants.{DstOp0Op1, DstOp1, DstMemory, MemoryDst, Op0Op1, Op1, Bare}
 use Rattle.vm_mnemonics.specs.Mnemonics.{operation_of}
@@ -16,13 +13,9 @@ use Rattle.asm.specs.Parts.{Part, line_pieces, line_at, next_line}
 use Rattle.asm.specs.Operands.{byte_is, is_pair, operand_of}
 use Rattle.asm.specs.declared.OlaAsmOperand.{OlaAsmOperand}
 use Rattle.asm.specs.declared.OlaAsmOperand.TheVariants.{Empty, ImmediateOperand, RegisterOperand, RegisterWithOffset, RegisterWithFactoredRegOffset, SpecialReg, Label, Identifier}
-use Rattle.asm.specs.declared.OperandRead.{OperandRead}
-use Rattle.asm.specs.declared.OperandRead.TheVariants.{Is as IsOperand, Unreadable as NoOperand}
 use Rattle.asm.specs.declared.OlaAsmInstruction.{OlaAsmInstruction}
 use Rattle.asm.specs.declared.AsmRow.{AsmRow}
 use Rattle.asm.specs.declared.AsmRow.TheVariants.{Instruction, LabelCall, LabelJmp, LabelProphet}
-use Rattle.asm.specs.declared.RowRead.{RowRead}
-use Rattle.asm.specs.declared.RowRead.TheVariants.{Is, Unreadable}
 use Rattle.asm.specs.declared.RowAt.{RowAt}
 use Rattle.asm.specs.declared.LineRead.{LineRead}
 use Rattle.asm.specs.declared.LineRead.TheVariants.{Blank, Row, Unreadable as NoRow}
@@ -33,53 +26,53 @@ use Rattle.asm.specs.declared.LineRead.TheVariants.{Blank, Row, Unreadable as No
 abbrev pub instruction_row : OlaOpcode → OlaAsmOperand → OlaAsmOperand → OlaAsmOperand → OlaAsmInstruction
 instruction_row o op0 op1 dst = record { opcode = o; op0 = op0; op1 = op1; dst = dst }
 
-abbrev pub instruction : OlaOpcode → OlaAsmOperand → OlaAsmOperand → OlaAsmOperand → RowRead
-instruction o op0 op1 dst = Is (Instruction (instruction_row o op0 op1 dst))
+abbrev pub instruction : OlaOpcode → OlaAsmOperand → OlaAsmOperand → OlaAsmOperand → Option AsmRow
+instruction o op0 op1 dst = Some (Instruction (instruction_row o op0 op1 dst))
 
 -- operands put into the places of the operation's row, where there are as many as it has; mload's memory operand stands in op1,
 -- mstore's in op0 with the value in op1
-unfoldable pub arranged : OlaOpcode → RowPlaces → List OlaAsmOperand → RowRead
-arranged o DstOp0Op1 [] = Unreadable
-arranged o DstOp0Op1 (a ∷ []) = Unreadable
-arranged o DstOp0Op1 (a ∷ b ∷ []) = Unreadable
+unfoldable pub arranged : OlaOpcode → RowPlaces → List OlaAsmOperand → Option AsmRow
+arranged o DstOp0Op1 [] = None
+arranged o DstOp0Op1 (a ∷ []) = None
+arranged o DstOp0Op1 (a ∷ b ∷ []) = None
 arranged o DstOp0Op1 (a ∷ b ∷ c ∷ []) = instruction o b c a
-arranged o DstOp0Op1 (a ∷ b ∷ c ∷ d ∷ e) = Unreadable
-arranged o DstOp1 [] = Unreadable
-arranged o DstOp1 (a ∷ []) = Unreadable
+arranged o DstOp0Op1 (a ∷ b ∷ c ∷ d ∷ e) = None
+arranged o DstOp1 [] = None
+arranged o DstOp1 (a ∷ []) = None
 arranged o DstOp1 (a ∷ b ∷ []) = instruction o Empty b a
-arranged o DstOp1 (a ∷ b ∷ c ∷ d) = Unreadable
-arranged o DstMemory [] = Unreadable
-arranged o DstMemory (a ∷ []) = Unreadable
+arranged o DstOp1 (a ∷ b ∷ c ∷ d) = None
+arranged o DstMemory [] = None
+arranged o DstMemory (a ∷ []) = None
 arranged o DstMemory (a ∷ b ∷ []) = instruction o Empty b a
-arranged o DstMemory (a ∷ b ∷ c ∷ d) = Unreadable
-arranged o MemoryDst [] = Unreadable
-arranged o MemoryDst (a ∷ []) = Unreadable
+arranged o DstMemory (a ∷ b ∷ c ∷ d) = None
+arranged o MemoryDst [] = None
+arranged o MemoryDst (a ∷ []) = None
 arranged o MemoryDst (a ∷ b ∷ []) = instruction o a b Empty
-arranged o MemoryDst (a ∷ b ∷ c ∷ d) = Unreadable
-arranged o Op0Op1 [] = Unreadable
-arranged o Op0Op1 (a ∷ []) = Unreadable
+arranged o MemoryDst (a ∷ b ∷ c ∷ d) = None
+arranged o Op0Op1 [] = None
+arranged o Op0Op1 (a ∷ []) = None
 arranged o Op0Op1 (a ∷ b ∷ []) = instruction o a b Empty
-arranged o Op0Op1 (a ∷ b ∷ c ∷ d) = Unreadable
-arranged o Op1 [] = Unreadable
+arranged o Op0Op1 (a ∷ b ∷ c ∷ d) = None
+arranged o Op1 [] = None
 arranged o Op1 (a ∷ []) = instruction o Empty a Empty
-arranged o Op1 (a ∷ b ∷ c) = Unreadable
+arranged o Op1 (a ∷ b ∷ c) = None
 arranged o Bare [] = instruction o Empty Empty Empty
-arranged o Bare (a ∷ b) = Unreadable
+arranged o Bare (a ∷ b) = None
 
-abbrev pub one_operand_more : OperandRead → Option (List OlaAsmOperand) → Option (List OlaAsmOperand)
-one_operand_more NoOperand os = none
-one_operand_more (IsOperand o) none = none
-one_operand_more (IsOperand o) (some os) = some (o ∷ os)
+abbrev pub one_operand_more : Option OlaAsmOperand → Option (List OlaAsmOperand) → Option (List OlaAsmOperand)
+one_operand_more None os = None
+one_operand_more (Some o) None = None
+one_operand_more (Some o) (Some os) = Some (o ∷ os)
 
 -- every piece as an operand, or none where one is no operand
 unfoldable pub operands_of : List Part → Option (List OlaAsmOperand)
-operands_of [] = some []
+operands_of [] = Some []
 operands_of (q ∷ qs) = one_operand_more (operand_of q) (operands_of qs)
 
-unfoldable pub arranged_if : OpcodeFound → Option (List OlaAsmOperand) → RowRead
-arranged_if NoOpcode os = Unreadable
-arranged_if (IsOpcode o) none = Unreadable
-arranged_if (IsOpcode o) (some os) = arranged o (row_places o) os
+unfoldable pub arranged_if : Option OlaOpcode → Option (List OlaAsmOperand) → Option AsmRow
+arranged_if None os = None
+arranged_if (Some o) None = None
+arranged_if (Some o) (Some os) = arranged o (row_places o) os
 
 -- ---- label rows
 
@@ -99,24 +92,24 @@ is_pair_row letters x =
 -- a label row of one piece, without its colon
 unfoldable pub label_row : Part → Option AsmRow
 label_row q =
-    cond (is_call_row q.text) (some (LabelCall q.start (length q.text - 1)))
-    (cond (is_pair_row (bytes "LBL") q.text) (some (LabelJmp q.start (length q.text - 1)))
-    (cond (is_pair_row (bytes "PROPHET") q.text) (some (LabelProphet q.start (length q.text - 1)))
-    none))
+    cond (is_call_row q.text) (Some (LabelCall q.start (length q.text - 1)))
+    (cond (is_pair_row (bytes "LBL") q.text) (Some (LabelJmp q.start (length q.text - 1)))
+    (cond (is_pair_row (bytes "PROPHET") q.text) (Some (LabelProphet q.start (length q.text - 1)))
+    None))
 
-abbrev pub or_else_row : Option AsmRow → RowRead → RowRead
-or_else_row (some r) other = Is r
-or_else_row none other = other
+abbrev pub or_else_row : Option AsmRow → Option AsmRow → Option AsmRow
+or_else_row (Some r) other = Some r
+or_else_row None other = other
 
 -- a row from its pieces: a label row, or a mnemonic and its operands
-unfoldable pub row_of : List Part → RowRead
-row_of [] = Unreadable
-row_of (q ∷ []) = or_else_row (label_row q) (arranged_if (operation_of q.text) (some []))
+unfoldable pub row_of : List Part → Option AsmRow
+row_of [] = None
+row_of (q ∷ []) = or_else_row (label_row q) (arranged_if (operation_of q.text) (Some []))
 row_of (q ∷ r ∷ rs) = arranged_if (operation_of q.text) (operands_of (r ∷ rs))
 
-abbrev pub of_row : RowRead → LineRead
-of_row (Is r) = Row r
-of_row Unreadable = NoRow
+abbrev pub of_row : Option AsmRow → LineRead
+of_row (Some r) = Row r
+of_row None = NoRow
 
 -- what a line is: no row where it has no piece
 abbrev pub line_of : List Part → LineRead
@@ -130,9 +123,9 @@ row_at s i = record { read = line_of (line_pieces (line_at s i)); next = next_li
 -- ---- the rows of a text
 
 -- 3: "an unreadable row (non-empty rows before it)"
-abbrev pub row_read : ℕ → RowRead → Answer AsmRow
-row_read k (Is r) = ok r
-row_read k Unreadable = refused 3 k
+abbrev pub row_read : ℕ → Option AsmRow → Answer AsmRow
+row_read k (Some r) = ok r
+row_read k None = refused 3 k
 
 -- every row, where k rows stand ahead
 unfoldable pub read_rows : ℕ → List (List Part) → Answer (List AsmRow)

@@ -1,5 +1,5 @@
 -- What the rows of a text add up to, and what two such sums are together.
-use Rattle.std.specs.Prelude.{ℕ, suc, ◌+◌, List, [], ◌∷◌, map, Bool, true, false, ◌||◌, cond, length}
+use Rattle.std.specs.Prelude.{ℕ, suc, ◌+◌, List, [], ◌∷◌, map, Bool, true, false, ◌||◌, cond, length, Option, Some, None, Result, Ok, Err}
 use Rattle.text.specs.Bytes.{bytes, same}
 use Rattle.text.specs.Lists.{total}
 use Rattle.text.specs.Answer.{Answer, ok, refused, ◌>>=◌}
@@ -13,12 +13,8 @@ use Rattle.asm.specs.declared.OlaAsmOperand.TheVariants.{Empty, ImmediateOperand
 use Rattle.asm.specs.declared.OlaAsmInstruction.{OlaAsmInstruction}
 use Rattle.asm.specs.declared.AsmRow.{AsmRow}
 use Rattle.asm.specs.declared.AsmRow.TheVariants.{Instruction, LabelCall, LabelJmp, LabelProphet}
-use Rattle.asm.specs.declared.PlaceFound.{PlaceFound}
-use Rattle.asm.specs.declared.PlaceFound.TheVariants.{At, Nothing}
 use Rattle.asm.specs.declared.RowCount.{RowCount}
 use Rattle.asm.specs.declared.Tally.{Tally}
-use Rattle.asm.specs.declared.Surveyed.{Surveyed}
-use Rattle.asm.specs.declared.Surveyed.TheVariants.{Is, Unreadable}
 
 -- ---- words
 
@@ -72,30 +68,30 @@ count_rows f [] = 0
 count_rows f (r ∷ rs) = cond (f r) (suc (count_rows f rs)) (count_rows f rs)
 
 -- where a call label starts
-abbrev pub call_place : AsmRow → PlaceFound
-call_place (Instruction i) = Nothing
-call_place (LabelCall start n) = At start
-call_place (LabelJmp start n) = Nothing
-call_place (LabelProphet start n) = Nothing
+abbrev pub call_place : AsmRow → Option ℕ
+call_place (Instruction i) = None
+call_place (LabelCall start n) = Some start
+call_place (LabelJmp start n) = None
+call_place (LabelProphet start n) = None
 
 -- the first of two places
-abbrev pub or_place : PlaceFound → PlaceFound → PlaceFound
-or_place (At i) other = At i
-or_place Nothing other = other
+abbrev pub or_place : Option ℕ → Option ℕ → Option ℕ
+or_place (Some i) other = Some i
+or_place None other = other
 
 -- where the first call label starts
-unfoldable pub first_call : List AsmRow → PlaceFound
-first_call [] = Nothing
+unfoldable pub first_call : List AsmRow → Option ℕ
+first_call [] = None
 first_call (r ∷ rs) = or_place (call_place r) (first_call rs)
 
 -- where main's scope begins, at its call label
-unfoldable pub main_start : List ℕ → List AsmRow → PlaceFound
-main_start s [] = Nothing
+unfoldable pub main_start : List ℕ → List AsmRow → Option ℕ
+main_start s [] = None
 main_start s (r ∷ rs) = cond (is_main_row s r) (call_place r) (main_start s rs)
 
 -- where it ends, at the next call label; nothing where it runs to the text's end
-unfoldable pub main_end : List ℕ → List AsmRow → PlaceFound
-main_end s [] = Nothing
+unfoldable pub main_end : List ℕ → List AsmRow → Option ℕ
+main_end s [] = None
 main_end s (r ∷ rs) = cond (is_main_row s r) (first_call rs) (main_end s rs)
 
 -- what the rows of a text s add up to
@@ -123,16 +119,16 @@ abbrev pub survey_of : List ℕ → Answer Tally
 survey_of s = survey_from s 0
 
 -- an answer by its number, detail and sums
-abbrev pub survey_numbered : Surveyed → Answer Tally
-survey_numbered (Is t) = ok t
-survey_numbered (Unreadable rows) = refused 3 rows.0
+abbrev pub survey_numbered : Result Tally RowCount → Answer Tally
+survey_numbered (Ok t) = ok t
+survey_numbered (Err rows) = refused 3 rows.0
 
 -- ---- two texts one after the other
 
 -- main's end, where it begins in the first: there, or at the first call label of the second
-abbrev pub joined_end : PlaceFound → PlaceFound → PlaceFound → PlaceFound → PlaceFound
-joined_end (At i) end call other = or_place end call
-joined_end Nothing end call other = other
+abbrev pub joined_end : Option ℕ → Option ℕ → Option ℕ → Option ℕ → Option ℕ
+joined_end (Some i) end call other = or_place end call
+joined_end None end call other = other
 
 abbrev pub joined : Tally → Tally → Tally
 joined f g = record {
@@ -153,9 +149,9 @@ joined_surveys (refused n d) g = refused n d
 joined_surveys (ok f) (refused n d) = refused n (f.rows + d)
 joined_surveys (ok f) (ok g) = ok (joined f g)
 
-abbrev pub moved_place : ℕ → PlaceFound → PlaceFound
-moved_place n (At i) = At (n + i)
-moved_place n Nothing = Nothing
+abbrev pub moved_place : ℕ → Option ℕ → Option ℕ
+moved_place n (Some i) = Some (n + i)
+moved_place n None = None
 
 -- the sums of a text that stands n bytes further on
 abbrev pub moved_tally : ℕ → Tally → Tally

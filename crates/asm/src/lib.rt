@@ -45,13 +45,6 @@ pub enum OlaAsmOperand {
     },
 }
 
-// What reading a piece as an operand finds.
-#[derive(Clone, Copy)]
-pub enum OperandRead {
-    Is(OlaAsmOperand),
-    Unreadable,
-}
-
 // An instruction row: its operation and its operands by place.
 #[derive(Clone, Copy)]
 pub struct OlaAsmInstruction {
@@ -70,13 +63,6 @@ pub enum AsmRow {
     LabelProphet { start: usize, length: usize },
 }
 
-// What reading a line finds.
-#[derive(Clone, Copy)]
-pub enum RowRead {
-    Is(AsmRow),
-    Unreadable,
-}
-
 // What reading a line finds: no row where it has no piece.
 #[derive(Clone, Copy)]
 pub enum LineRead {
@@ -92,16 +78,9 @@ pub struct RowAt {
     pub next: usize,
 }
 
-// Where something stands in a text, or that it stands nowhere.
-#[derive(Clone, Copy)]
-pub enum PlaceFound {
-    At(usize),
-    Nothing,
-}
-
 // What the rows of a text add up to: how many, how many of them are label rows, instruction rows and call labels `main`; the counted length
 // and the words of the instructions; where the first call label starts, where main's scope begins, and the call label that ends it.
-#[derive(Clone, Copy)]
+#[derive(Clone, Copy, Default)]
 pub struct Tally {
     pub rows: usize,
     pub labels: usize,
@@ -109,16 +88,9 @@ pub struct Tally {
     pub mains: usize,
     pub counted: usize,
     pub words: usize,
-    pub call: PlaceFound,
-    pub main: PlaceFound,
-    pub end: PlaceFound,
-}
-
-// What a survey of a text finds: its sums, or an unreadable row, with the non-empty rows before it.
-#[derive(Clone, Copy)]
-pub enum Surveyed {
-    Is(Tally),
-    Unreadable(RowCount),
+    pub call: Option<usize>,
+    pub main: Option<usize>,
+    pub end: Option<usize>,
 }
 
 impl RowCount {

@@ -1,4 +1,5 @@
 -- The sums of rows one after another: two runs of rows together, and three in either grouping.
+use Rattle.std.specs.Prelude.{Option, Some, None}
 use Prim.Native.Nat.{ℕ, suc, ◌+◌}
 use mathlib.Core.Path.{◌≡◌, refl, sym, ap, ◌∙◌}
 use mathlib.Core.List.{List, [], ◌∷◌, ◌++◌, append-nil}
@@ -14,27 +15,25 @@ use Rattle.asm.specs.Survey.{word_count, is_label_row, is_main_row, count_rows, 
 use Rattle.asm.specs.declared.OlaAsmInstruction.{OlaAsmInstruction}
 use Rattle.asm.specs.declared.AsmRow.{AsmRow}
 use Rattle.asm.specs.declared.AsmRow.TheVariants.{Instruction, LabelCall, LabelJmp, LabelProphet}
-use Rattle.asm.specs.declared.PlaceFound.{PlaceFound}
-use Rattle.asm.specs.declared.PlaceFound.TheVariants.{At, Nothing}
 use Rattle.asm.specs.declared.Tally.{Tally}
 
 -- ---- places
 
 -- the first of three places, in either grouping
-or_assoc : (a b c : PlaceFound) → or_place (or_place a b) c ≡ or_place a (or_place b c)
-or_assoc (At i) b c = refl
-or_assoc Nothing b c = refl
+or_assoc : (a b c : Option ℕ) → or_place (or_place a b) c ≡ or_place a (or_place b c)
+or_assoc (Some i) b c = refl
+or_assoc None b c = refl
 
 -- nowhere is nothing more
-pub or_nothing : (a : PlaceFound) → or_place a Nothing ≡ a
-or_nothing (At i) = refl
-or_nothing Nothing = refl
+pub or_nothing : (a : Option ℕ) → or_place a None ≡ a
+or_nothing (Some i) = refl
+or_nothing None = refl
 
 -- main's end over three texts, in either grouping
-end_assoc : (fm fe gc gm ge hc he : PlaceFound)
+end_assoc : (fm fe gc gm ge hc he : Option ℕ)
     → joined_end (or_place fm gm) (joined_end fm fe gc ge) hc he ≡ joined_end fm fe (or_place gc hc) (joined_end gm ge hc he)
-end_assoc (At i) fe gc gm ge hc he = or_assoc fe gc hc
-end_assoc Nothing fe gc gm ge hc he = refl
+end_assoc (Some i) fe gc gm ge hc he = or_assoc fe gc hc
+end_assoc None fe gc gm ge hc he = refl
 
 -- ---- the parts of a tally over two runs of rows
 
@@ -76,7 +75,7 @@ main_append s (r ∷ rs) qs = go r (main_append s rs qs)
     go (LabelCall start n) h = pick (is_main_row s (LabelCall start n)) h
       where
         pick : (t : Bool) → main_start s (rs ++ qs) ≡ or_place (main_start s rs) (main_start s qs)
-            → cond t (At start) (main_start s (rs ++ qs)) ≡ or_place (cond t (At start) (main_start s rs)) (main_start s qs)
+            → cond t (Some start) (main_start s (rs ++ qs)) ≡ or_place (cond t (Some start) (main_start s rs)) (main_start s qs)
         pick true h = refl
         pick false h = h
     go (LabelJmp start n) h = h
@@ -95,7 +94,7 @@ end_append s (r ∷ rs) qs = go r (end_append s rs qs)
       where
         pick : (t : Bool) → main_end s (rs ++ qs) ≡ joined_end (main_start s rs) (main_end s rs) (first_call qs) (main_end s qs)
             → cond t (first_call (rs ++ qs)) (main_end s (rs ++ qs))
-            ≡ joined_end (cond t (At start) (main_start s rs)) (cond t (first_call rs) (main_end s rs)) (first_call qs) (main_end s qs)
+            ≡ joined_end (cond t (Some start) (main_start s rs)) (cond t (first_call rs) (main_end s rs)) (first_call qs) (main_end s qs)
         pick true h = call_append rs qs
         pick false h = h
     go (LabelJmp start n) h = h
@@ -142,7 +141,7 @@ none_joined s f =
 
 -- main ends only where it began
 abbrev pub Settled : Tally → Type 0
-Settled f = joined_end f.main f.end Nothing Nothing ≡ f.end
+Settled f = joined_end f.main f.end None None ≡ f.end
 
 -- no rows after: a tally with an end and no main would lose the end
 pub joined_none : (s : List ℕ) (f : Tally) → Settled f → joined f (tally_of s []) ≡ f
@@ -169,9 +168,9 @@ tally_settled s rs = sym (end_append s rs []) ∙ ap (main_end s) (append-nil rs
 pub joined_settled : (f g : Tally) → Settled g → Settled (joined f g)
 joined_settled f g h = go f.main
   where
-    go : (m : PlaceFound) → joined_end (or_place m g.main) (joined_end m f.end g.call g.end) Nothing Nothing ≡ joined_end m f.end g.call g.end
-    go (At i) = or_nothing (or_place f.end g.call)
-    go Nothing = h
+    go : (m : Option ℕ) → joined_end (or_place m g.main) (joined_end m f.end g.call g.end) None None ≡ joined_end m f.end g.call g.end
+    go (Some i) = or_nothing (or_place f.end g.call)
+    go None = h
 
 -- ---- surveys
 

@@ -1,10 +1,10 @@
 -- Document 02, Point 2, piece by piece: what a label operand was, which pieces are read otherwise now, and as what. The promises cite none of this; it says
 -- that "The old answers that change are these", and no other.
+use Rattle.std.specs.Prelude.{Option, Some, None}
 use Prim.Native.Nat.{ℕ, suc, ◌+◌}
 use mathlib.Core.Path.{◌≡◌, refl, sym, ap, ◌∙◌, subst}
 use mathlib.Core.List.{List, [], ◌∷◌, ◌++◌}
 use mathlib.Core.Bool.{Bool, true, false, not, ◌&&◌, ◌||◌, cond, and-false, and-eq-true_iff, or-true, true≢false}
-use mathlib.Core.Option.{none}
 use native.Mathlib.Omega.{arith}
 use borrow.Author.Tests.{ne_eqb, eqb-true, not-true}
 use lib.Dec.{eqb, ltb}
@@ -15,17 +15,14 @@ use Rattle.text.specs.Scan.{scan, all, is_empty}
 use Rattle.text.proofs.ClassLaws.{word_letter}
 use Rattle.text.proofs.SameLaws.{same_equal}
 use Rattle.vm_hardware.specs.Registers.{register_of, special_of}
-use Rattle.vm_opcodes.specs.declared.OpcodeFound.{OpcodeFound}
-use Rattle.vm_opcodes.specs.declared.OpcodeFound.TheVariants.{Is as IsOpcode, Nothing as NoOpcode}
 use Rattle.vm_operands.specs.Numbers.{is_signed}
 use Rattle.vm_mnemonics.specs.Mnemonics.{operation_of}
 use Rattle.asm.specs.Parts.{Part}
 use Rattle.asm.specs.Operands.{Shape, byte_is, is_digits, is_pair, is_bracketed, is_source_number, factored, paired, bare, offset, register, number, label, special, name, is_name, shapes, first_match, operand_of}
 use Rattle.asm.specs.Rows.{one_operand_more, operands_of, arranged_if, row_of}
 use Rattle.asm.specs.declared.OlaAsmOperand.TheVariants.{Label, Identifier}
-use Rattle.asm.specs.declared.OperandRead.{OperandRead}
-use Rattle.asm.specs.declared.OperandRead.TheVariants.{Is, Unreadable}
-use Rattle.asm.specs.declared.RowRead.TheVariants.{Unreadable as NoRow}
+use Rattle.asm.specs.declared.OlaAsmOperand.{OlaAsmOperand}
+use Rattle.vm_opcodes.specs.declared.OlaOpcode.{OlaOpcode}
 
 -- ---- what was
 
@@ -112,11 +109,11 @@ module _ (c : ℕ) (pair : List ℕ) (n : ℕ) where
   unfolding first_match
   from_label l = rw (no_brackets.0, no_brackets.1, no_brackets.2, no_brackets.3, no_register, no_number, no_special)
 
-  was_label : is_pair pair ≡ true → first_match former_shapes piece ≡ Is (Label n (length piece.text))
+  was_label : is_pair pair ≡ true → first_match former_shapes piece ≡ Some (Label n (length piece.text))
   unfolding first_match same
   was_label p = from_label any_label ∙ rw p
 
-  named_or_not : eqb c 46 ≡ false → operand_of piece ≡ cond (is_name piece.text) (Is (Identifier n (length piece.text))) Unreadable
+  named_or_not : eqb c 46 ≡ false → operand_of piece ≡ cond (is_name piece.text) (Some (Identifier n (length piece.text))) None
   unfolding shapes first_match
   named_or_not e = from_label label ∙ rw e
 
@@ -171,43 +168,43 @@ named c pair p = go (eqb c 95) refl (is_letter c) refl
 -- ---- what changes
 
 -- it was a label,
-pub changed_from : (q : Part) → looks_like q.text ≡ true → first_match former_shapes q ≡ Is (Label q.start (length q.text))
+pub changed_from : (q : Part) → looks_like q.text ≡ true → first_match former_shapes q ≡ Some (Label q.start (length q.text))
 changed_from q e =
     let l = looks q.text ((and-eq-true_iff (any_label.fits q.text) (not (byte_is q.text 0 46))).0 e).0 in
-    subst (λ (x : List ℕ). first_match former_shapes (record { start = q.start; text = x }) ≡ Is (Label q.start (length x))) (sym l.made)
+    subst (λ (x : List ℕ). first_match former_shapes (record { start = q.start; text = x }) ≡ Some (Label q.start (length x))) (sym l.made)
     (was_label l.first l.pair q.start l.is_pair_lem)
 
 -- and now "A letter or underscore before LBL is a name", and any other character makes it unreadable
-pub changed_to : (q : Part) → looks_like q.text ≡ true → operand_of q ≡ cond (is_name_first q.text) (Is (Identifier q.start (length q.text))) Unreadable
+pub changed_to : (q : Part) → looks_like q.text ≡ true → operand_of q ≡ cond (is_name_first q.text) (Some (Identifier q.start (length q.text))) None
 changed_to q e =
     let b = (and-eq-true_iff (any_label.fits q.text) (not (byte_is q.text 0 46))).0 e in
     let l = looks q.text b.0 in
     let d : eqb l.first 46 ≡ false = subst (λ (x : List ℕ). byte_is x 0 46 ≡ false) l.made (not-true (byte_is q.text 0 46) b.1) in
-    subst (λ (x : List ℕ). operand_of (record { start = q.start; text = x }) ≡ cond (is_name_first x) (Is (Identifier q.start (length x))) Unreadable) (sym l.made)
+    subst (λ (x : List ℕ). operand_of (record { start = q.start; text = x }) ≡ cond (is_name_first x) (Some (Identifier q.start (length x))) None) (sym l.made)
     (named_or_not l.first l.pair q.start d ∙ rw (named l.first l.pair l.is_pair_lem))
 
 -- ---- its row
 
-none_read : (r : OperandRead) → one_operand_more r none ≡ none
-none_read Unreadable = refl
-none_read (Is o) = refl
+none_read : (r : Option OlaAsmOperand) → one_operand_more r None ≡ None
+none_read None = refl
+none_read (Some o) = refl
 
-operands_none : (before : List Part) (q : Part) (after : List Part) → operand_of q ≡ Unreadable → operands_of (before ++ q ∷ after) ≡ none
+operands_none : (before : List Part) (q : Part) (after : List Part) → operand_of q ≡ None → operands_of (before ++ q ∷ after) ≡ None
 unfolding operands_of
 operands_none [] q after e = rw e
 operands_none (b ∷ before) q after e = rw (operands_none before q after e) (none_read (operand_of b))
 
-none_arranged : (o : OpcodeFound) → arranged_if o none ≡ NoRow
+none_arranged : (o : Option OlaOpcode) → arranged_if o None ≡ None
 unfolding arranged_if
-none_arranged NoOpcode = refl
-none_arranged (IsOpcode o) = refl
+none_arranged None = refl
+none_arranged (Some o) = refl
 
 -- "Any other character than a dot makes the row unreadable", whatever else stands in it
 pub row_unreadable : (first : Part) (before : List Part) (q : Part) (after : List Part) → looks_like q.text ≡ true → is_name_first q.text ≡ false
-    → row_of (first ∷ before ++ q ∷ after) ≡ NoRow
+    → row_of (first ∷ before ++ q ∷ after) ≡ None
 unfolding row_of
 row_unreadable first before q after e f = go before (operands_none before q after (changed_to q e ∙ rw f))
   where
-    go : (before : List Part) → operands_of (before ++ q ∷ after) ≡ none → row_of (first ∷ before ++ q ∷ after) ≡ NoRow
+    go : (before : List Part) → operands_of (before ++ q ∷ after) ≡ None → row_of (first ∷ before ++ q ∷ after) ≡ None
     go [] h = ap (arranged_if (operation_of first.text)) h ∙ none_arranged (operation_of first.text)
     go (b ∷ before) h = ap (arranged_if (operation_of first.text)) h ∙ none_arranged (operation_of first.text)

@@ -1,9 +1,9 @@
 -- How many bytes of a source its rows take: the sum over all pieces, and the fewest that an instruction of each operation takes.
+use Rattle.std.specs.Prelude.{Option, Some, None}
 use Prim.Native.Nat.{ℕ, ◌+◌, ◌-◌, ◌*◌, ◌≤◌}
 use mathlib.Core.Path.{◌≡◌, refl, sym, ap, ◌∙◌}
 use mathlib.Core.List.{List, [], ◌∷◌, map}
 use mathlib.Core.Bool.{Bool, true, false, cond, not, ◌||◌}
-use mathlib.Core.Option.{Option, none, some}
 use native.Mathlib.Omega.{arith}
 use borrow.Author.Tests.{leb-true}
 use lib.Dec.{eqb, leb}
@@ -18,8 +18,6 @@ use Rattle.text.proofs.SameLaws.{same_equal}
 use Rattle.text.proofs.SumLaws.{spaced, parts_total}
 use Rattle.vm_opcodes.specs.Operations.{operations, row_places}
 use Rattle.vm_opcodes.specs.declared.OlaOpcode.{OlaOpcode}
-use Rattle.vm_opcodes.specs.declared.OpcodeFound.{OpcodeFound}
-use Rattle.vm_opcodes.specs.declared.OpcodeFound.TheVariants.{Is as IsOpcode, Nothing as NoOpcode}
 use Rattle.vm_opcodes.specs.declared.RowPlaces.{RowPlaces}
 use Rattle.vm_opcodes.specs.declared.RowPlaces.TheVariants.{DstOp0Op1, DstOp1, DstMemory, MemoryDst, Op0Op1, Op1, Bare}
 use Rattle.vm_opcodes.proofs.Laws.{every_operation, first_holds}
@@ -30,13 +28,9 @@ use Rattle.asm.specs.Operands.{is_source_number, shapes, first_match, operand_of
 use Rattle.asm.specs.Rows.{arranged, arranged_if, one_operand_more, operands_of, label_row, is_call_row, is_pair_row, or_else_row, row_of}
 use Rattle.asm.specs.declared.OlaAsmOperand.{OlaAsmOperand}
 use Rattle.asm.specs.declared.OlaAsmOperand.TheVariants.{Empty}
-use Rattle.asm.specs.declared.OperandRead.{OperandRead}
-use Rattle.asm.specs.declared.OperandRead.TheVariants.{Is as IsOperand, Unreadable as NoOperand}
 use Rattle.asm.specs.declared.OlaAsmInstruction.{OlaAsmInstruction}
 use Rattle.asm.specs.declared.AsmRow.{AsmRow}
 use Rattle.asm.specs.declared.AsmRow.TheVariants.{Instruction, LabelCall, LabelJmp, LabelProphet}
-use Rattle.asm.specs.declared.RowRead.{RowRead}
-use Rattle.asm.specs.declared.RowRead.TheVariants.{Is, Unreadable}
 
 -- ---- the pieces of a source
 
@@ -143,34 +137,34 @@ least_six o e =
 -- ---- the bytes of an instruction row
 
 -- a piece that is read as an operation is its mnemonic
-pub operation_text : (x : List ℕ) (o : OlaOpcode) → operation_of x ≡ IsOpcode o → x ≡ mnemonic o
+pub operation_text : (x : List ℕ) (o : OlaOpcode) → operation_of x ≡ Some o → x ≡ mnemonic o
 operation_text x o h = same_equal x (mnemonic o) (first_holds (λ o. same x (mnemonic o)) operations o h)
 
-unread : {r : AsmRow} → Unreadable ≡ Is r → ⊥
+unread : {r : AsmRow} → None ≡ Some r → ⊥
 unread e = let z : ◌≡◌ {A = ℕ} 0 1 = cc in omega arith
 
 -- a piece that is read as an operand holds a byte
-operand_bytes : (q : Part) (o : OlaAsmOperand) → operand_of q ≡ IsOperand o → 2 ≤ piece_bytes q
+operand_bytes : (q : Part) (o : OlaAsmOperand) → operand_of q ≡ Some o → 2 ≤ piece_bytes q
 unfolding is_source_number shapes first_match register_of special_of is_letter same
 operand_bytes q o h = go q.start q.text h
   where
-    go : (n : ℕ) (x : List ℕ) → operand_of (record { start = n; text = x }) ≡ IsOperand o → 2 ≤ length x + 1
+    go : (n : ℕ) (x : List ℕ) → operand_of (record { start = n; text = x }) ≡ Some o → 2 ≤ length x + 1
     go n [] e = let z : ◌≡◌ {A = ℕ} 0 1 = cc in absurd (omega arith)
     go n (b ∷ x) e = omega arith
 
-operands_bytes : (qs : List Part) (os : List OlaAsmOperand) → operands_of qs ≡ some os → 2 * length os ≤ row_bytes qs
+operands_bytes : (qs : List Part) (os : List OlaAsmOperand) → operands_of qs ≡ Some os → 2 * length os ≤ row_bytes qs
 unfolding operands_of total
 operands_bytes [] os h = let e : os ≡ [] = cc in rw e (omega arith)
 operands_bytes (q ∷ qs) os h = go (operand_of q) (operands_of qs) (operand_bytes q) (operands_bytes qs) h
   where
-    go : (r : OperandRead) (t : Option (List OlaAsmOperand)) → ((o : OlaAsmOperand) → r ≡ IsOperand o → 2 ≤ piece_bytes q)
-        → ((os : List OlaAsmOperand) → t ≡ some os → 2 * length os ≤ row_bytes qs) → one_operand_more r t ≡ some os → 2 * length os ≤ row_bytes (q ∷ qs)
-    go NoOperand t a b e = let z : ◌≡◌ {A = ℕ} 0 1 = cc in absurd (omega arith)
-    go (IsOperand o) none a b e = let z : ◌≡◌ {A = ℕ} 0 1 = cc in absurd (omega arith)
-    go (IsOperand o) (some ps) a b e = let f : os ≡ o ∷ ps = cc in let k = a o refl in let m = b ps refl in rw f (omega arith)
+    go : (r : Option OlaAsmOperand) (t : Option (List OlaAsmOperand)) → ((o : OlaAsmOperand) → r ≡ Some o → 2 ≤ piece_bytes q)
+        → ((os : List OlaAsmOperand) → t ≡ Some os → 2 * length os ≤ row_bytes qs) → one_operand_more r t ≡ Some os → 2 * length os ≤ row_bytes (q ∷ qs)
+    go None t a b e = let z : ◌≡◌ {A = ℕ} 0 1 = cc in absurd (omega arith)
+    go (Some o) None a b e = let z : ◌≡◌ {A = ℕ} 0 1 = cc in absurd (omega arith)
+    go (Some o) (Some ps) a b e = let f : os ≡ o ∷ ps = cc in let k = a o refl in let m = b ps refl in rw f (omega arith)
 
 -- a row's instruction has the operation, and the row as many operands as that has places
-arranged_count : (o : OlaOpcode) (p : RowPlaces) (os : List OlaAsmOperand) (i : OlaAsmInstruction) → arranged o p os ≡ Is (Instruction i)
+arranged_count : (o : OlaOpcode) (p : RowPlaces) (os : List OlaAsmOperand) (i : OlaAsmInstruction) → arranged o p os ≡ Some (Instruction i)
     → (i.opcode ≡ o) × (length os ≡ place_count p)
 unfolding arranged
 arranged_count o DstOp0Op1 [] i h = absurd (unread h)
@@ -204,7 +198,7 @@ arranged_count o Bare (a ∷ b) i h = absurd (unread h)
 abbrev pub BareIsEmpty : OlaAsmInstruction → Type 0
 BareIsEmpty i = row_places i.opcode ≡ Bare → (i.op0 ≡ Empty) × (i.op1 ≡ Empty) × (i.dst ≡ Empty)
 
-arranged_bare : (o : OlaOpcode) (os : List OlaAsmOperand) (i : OlaAsmInstruction) → arranged o Bare os ≡ Is (Instruction i)
+arranged_bare : (o : OlaOpcode) (os : List OlaAsmOperand) (i : OlaAsmInstruction) → arranged o Bare os ≡ Some (Instruction i)
     → (i.op0 ≡ Empty) × (i.op1 ≡ Empty) × (i.dst ≡ Empty)
 unfolding arranged
 arranged_bare o [] i h = (cc, cc, cc)
@@ -216,47 +210,47 @@ pub record InstructionRow (ps : List Part) (i : OlaAsmInstruction) : Type 0 wher
   pub rest : List Part
   pub operands : List OlaAsmOperand
   pub pieces : ps ≡ first ∷ rest
-  pub spelled : operation_of first.text ≡ IsOpcode i.opcode
-  pub found : operands_of rest ≡ some operands
-  pub placed : arranged i.opcode (row_places i.opcode) operands ≡ Is (Instruction i)
+  pub spelled : operation_of first.text ≡ Some i.opcode
+  pub found : operands_of rest ≡ Some operands
+  pub placed : arranged i.opcode (row_places i.opcode) operands ≡ Some (Instruction i)
 
 -- no label row is an instruction
-label_row_else : (q : Part) (r : RowRead) (i : OlaAsmInstruction) → or_else_row (label_row q) r ≡ Is (Instruction i) → r ≡ Is (Instruction i)
+label_row_else : (q : Part) (r : Option AsmRow) (i : OlaAsmInstruction) → or_else_row (label_row q) r ≡ Some (Instruction i) → r ≡ Some (Instruction i)
 unfolding label_row
 label_row_else q r i h =
     go (is_call_row q.text) (is_pair_row (bytes "LBL") q.text) (is_pair_row (bytes "PROPHET") q.text) q.start (length q.text - 1) h
   where
     go : (a b c : Bool) (m n : ℕ)
-        → or_else_row (cond a (some (LabelCall m n)) (cond b (some (LabelJmp m n)) (cond c (some (LabelProphet m n)) none))) r ≡ Is (Instruction i)
-        → r ≡ Is (Instruction i)
+        → or_else_row (cond a (Some (LabelCall m n)) (cond b (Some (LabelJmp m n)) (cond c (Some (LabelProphet m n)) None))) r ≡ Some (Instruction i)
+        → r ≡ Some (Instruction i)
     go true b c m n e = cc
     go false true c m n e = cc
     go false false true m n e = cc
     go false false false m n e = e
 
-read_row : (q : Part) (rs : List Part) (i : OlaAsmInstruction) → arranged_if (operation_of q.text) (operands_of rs) ≡ Is (Instruction i)
+read_row : (q : Part) (rs : List Part) (i : OlaAsmInstruction) → arranged_if (operation_of q.text) (operands_of rs) ≡ Some (Instruction i)
     → InstructionRow (q ∷ rs) i
 unfolding arranged_if
 read_row q rs i h = go (operation_of q.text) (operands_of rs) refl refl h
   where
-    go : (f : OpcodeFound) (t : Option (List OlaAsmOperand)) → operation_of q.text ≡ f → operands_of rs ≡ t
-        → arranged_if f t ≡ Is (Instruction i) → InstructionRow (q ∷ rs) i
-    go NoOpcode t a b e = absurd (unread e)
-    go (IsOpcode o) none a b e = absurd (unread e)
-    go (IsOpcode o) (some os) a b e =
+    go : (f : Option OlaOpcode) (t : Option (List OlaAsmOperand)) → operation_of q.text ≡ f → operands_of rs ≡ t
+        → arranged_if f t ≡ Some (Instruction i) → InstructionRow (q ∷ rs) i
+    go None t a b e = absurd (unread e)
+    go (Some o) None a b e = absurd (unread e)
+    go (Some o) (Some os) a b e =
         let c = arranged_count o (row_places o) os i e in
-        let p : arranged i.opcode (row_places i.opcode) os ≡ Is (Instruction i) = ap (λ (o : OlaOpcode). arranged o (row_places o) os) c.0 ∙ e in
-        record { first = q; rest = rs; operands = os; pieces = refl; spelled = a ∙ ap IsOpcode (sym c.0); found = b; placed = p }
+        let p : arranged i.opcode (row_places i.opcode) os ≡ Some (Instruction i) = ap (λ (o : OlaOpcode). arranged o (row_places o) os) c.0 ∙ e in
+        record { first = q; rest = rs; operands = os; pieces = refl; spelled = a ∙ ap Some (sym c.0); found = b; placed = p }
 
 -- every row that is read as an instruction is such a row
-pub instruction_row_lem : (ps : List Part) (i : OlaAsmInstruction) → row_of ps ≡ Is (Instruction i) → InstructionRow ps i
+pub instruction_row_lem : (ps : List Part) (i : OlaAsmInstruction) → row_of ps ≡ Some (Instruction i) → InstructionRow ps i
 unfolding row_of operands_of
 instruction_row_lem [] i h = absurd (unread h)
 instruction_row_lem (q ∷ []) i h = read_row q [] i (label_row_else q _ i h)
 instruction_row_lem (q ∷ r ∷ rs) i h = read_row q (r ∷ rs) i h
 
 -- an instruction's pieces take at least the fewest bytes of its operation
-pub row_least : (ps : List Part) (i : OlaAsmInstruction) → row_of ps ≡ Is (Instruction i) → least_bytes i.opcode ≤ row_bytes ps
+pub row_least : (ps : List Part) (i : OlaAsmInstruction) → row_of ps ≡ Some (Instruction i) → least_bytes i.opcode ≤ row_bytes ps
 unfolding total
 row_least ps i h =
     let r = instruction_row_lem ps i h in
@@ -266,5 +260,5 @@ row_least ps i h =
     rw r.pieces (omega arith)
 
 -- a row of an operation that has no places leaves all places empty
-pub row_bare : (ps : List Part) (i : OlaAsmInstruction) → row_of ps ≡ Is (Instruction i) → BareIsEmpty i
+pub row_bare : (ps : List Part) (i : OlaAsmInstruction) → row_of ps ≡ Some (Instruction i) → BareIsEmpty i
 row_bare ps i h e = let r = instruction_row_lem ps i h in arranged_bare i.opcode r.operands i (rw e at r.placed)

@@ -1,9 +1,9 @@
 -- The survey of a text, a line feed and another text is the two surveys joined.
+use Rattle.std.specs.Prelude.{Option, Some, None}
 use Prim.Native.Nat.{ℕ, suc, ◌+◌, ◌-◌, ◌≤◌}
 use mathlib.Core.Path.{◌≡◌, refl, ap, ◌∙◌}
 use mathlib.Core.List.{List, [], ◌∷◌, ◌++◌, map}
 use mathlib.Core.Bool.{Bool, true, false, cond, not}
-use mathlib.Core.Option.{Option, none, some}
 use native.Mathlib.Omega.{arith}
 use borrow.Author.Tests.{leb-true, leb-false, le-leb, lt-leb}
 use lib.Dec.{eqb, leb}
@@ -24,8 +24,6 @@ use Rattle.asm.specs.Rows.{operands_of, arranged_if, is_call_row, is_pair_row, l
 use Rattle.asm.specs.Survey.{is_main_row, count_rows, main_start, main_end, tally_of, survey_from, survey_of, joined_surveys, moved_survey}
 use Rattle.asm.specs.declared.AsmRow.{AsmRow}
 use Rattle.asm.specs.declared.AsmRow.TheVariants.{Instruction, LabelCall, LabelJmp, LabelProphet}
-use Rattle.asm.specs.declared.RowRead.{RowRead}
-use Rattle.asm.specs.declared.RowRead.TheVariants.{Is, Unreadable}
 use Rattle.asm_laws.proofs.StepLaws.{survey_pieces, survey_append}
 use Rattle.asm_laws.proofs.PlaceLaws.{moved_part, moved_row, moved_rows, arranged_if_related, placed_moved, rows_moved, read_moved, tally_moved}
 
@@ -109,14 +107,14 @@ RowInside m (LabelJmp start n) = start + n ≤ m
 RowInside m (LabelProphet start n) = start + n ≤ m
 
 -- the same of what pieces were read as
-abbrev ReadInside : ℕ → RowRead → Type 0
-ReadInside m (Is r) = RowInside m r
-ReadInside m Unreadable = Unit {0}
+abbrev ReadInside : ℕ → Option AsmRow → Type 0
+ReadInside m (Some r) = RowInside m r
+ReadInside m None = Unit {0}
 
 -- of a label row, if it was one
 abbrev LabelInside : ℕ → Option AsmRow → Type 0
-LabelInside m (some r) = RowInside m r
-LabelInside m none = Unit {0}
+LabelInside m (Some r) = RowInside m r
+LabelInside m None = Unit {0}
 
 -- and of all rows that were read
 abbrev RowsInside : ℕ → Answer (List AsmRow) → Type 0
@@ -165,7 +163,7 @@ module _ (m : ℕ) where
   unfolding label_row
   label_inside q h = go (is_call_row q.text) (is_pair_row (bytes "LBL") q.text) (is_pair_row (bytes "PROPHET") q.text) q.start (length q.text - 1) (omega arith)
     where
-      go : (a b c : Bool) (i k : ℕ) → i + k ≤ m → LabelInside m (cond a (some (LabelCall i k)) (cond b (some (LabelJmp i k)) (cond c (some (LabelProphet i k)) none)))
+      go : (a b c : Bool) (i k : ℕ) → i + k ≤ m → LabelInside m (cond a (Some (LabelCall i k)) (cond b (Some (LabelJmp i k)) (cond c (Some (LabelProphet i k)) None)))
       go true b c i k e = e
       go false true c i k e = e
       go false false true i k e = e
@@ -177,12 +175,12 @@ module _ (m : ℕ) where
   row_inside none_left = tt
   row_inside (one_more {x = q} e none_left) = go (label_row q) (label_inside q e)
     where
-      other : RowRead
-      other = arranged_if (operation_of q.text) (some [])
+      other : Option AsmRow
+      other = arranged_if (operation_of q.text) (Some [])
 
       go : (l : Option AsmRow) → LabelInside m l → ReadInside m (or_else_row l other)
-      go (some r) k = k
-      go none k = arranged_if_related 0 (λ x y. ReadInside m x) tt (λ i. tt) (operation_of q.text) (some [])
+      go (Some r) k = k
+      go None k = arranged_if_related 0 (λ x y. ReadInside m x) tt (λ i. tt) (operation_of q.text) (Some [])
   row_inside (one_more {x = q} e (one_more {x = r} {xs = rs} f h)) =
       arranged_if_related 0 (λ x y. ReadInside m x) tt (λ i. tt) (operation_of q.text) (operands_of (r ∷ rs))
 
@@ -192,10 +190,10 @@ module _ (m : ℕ) where
   read_inside k none_left = none_left
   read_inside k (one_more {x = ps} {xs = pss} e h) = go (row_of ps) (read_rows (suc k) pss) (row_inside e) (read_inside (suc k) h)
     where
-      go : (r : RowRead) (x : Answer (List AsmRow)) → ReadInside m r → RowsInside m x → RowsInside m (row_read k r >>= λ r. x >>= λ rs. ok (r ∷ rs))
-      go Unreadable x a b = tt
-      go (Is r) (refused n d) a b = tt
-      go (Is r) (ok rs) a b = one_more a b
+      go : (r : Option AsmRow) (x : Answer (List AsmRow)) → ReadInside m r → RowsInside m x → RowsInside m (row_read k r >>= λ r. x >>= λ rs. ok (r ∷ rs))
+      go None x a b = tt
+      go (Some r) (refused n d) a b = tt
+      go (Some r) (ok rs) a b = one_more a b
 
 -- every label row of a text lies within it
 source_inside : (s : List ℕ) → RowsInside (length s) (read_rows 0 (source_pieces s))

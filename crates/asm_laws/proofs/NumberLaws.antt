@@ -1,4 +1,5 @@
 -- Every number in an operand of a row that was read is below p.
+use Rattle.std.specs.Prelude.{Option, Some, None}
 use Prim.Native.Nat.{ℕ, ◌<◌}
 use mathlib.Core.Path.{◌≡◌, refl}
 use mathlib.Core.List.{List}
@@ -6,15 +7,9 @@ use mathlib.Core.Bool.{Bool, true, false, cond}
 use lib.Dec.{lit<}
 use Rattle.text.specs.All.{All, none_left, one_more}
 use Rattle.vm_hardware.specs.Registers.{register_of, special_of}
-use Rattle.vm_hardware.specs.declared.RegisterFound.{RegisterFound}
-use Rattle.vm_hardware.specs.declared.RegisterFound.TheVariants.{Is as IsRegister, Nothing as NoRegister}
-use Rattle.vm_hardware.specs.declared.SpecialFound.{SpecialFound}
-use Rattle.vm_hardware.specs.declared.SpecialFound.TheVariants.{Is as IsSpecial, Nothing as NoSpecial}
 use Rattle.vm_operands.specs.Numbers.{order, signed, number_of}
 use Rattle.vm_operands.proofs.Laws.{signed_below, number_below}
 use Rattle.vm_operands.specs.declared.ImmediateValue.{ImmediateValue}
-use Rattle.vm_operands.specs.declared.ImmediateFound.{ImmediateFound}
-use Rattle.vm_operands.specs.declared.ImmediateFound.TheVariants.{Is as IsNumber, Nothing as NoNumber}
 use Rattle.asm.specs.Parts.{Part}
 use Rattle.asm.specs.Operands.{hex_numeral, is_numeral, source_number, Shape, with_number, of_register, of_special, shapes, first_match, inner}
 use Rattle.asm.specs.Rows.{row_of}
@@ -22,8 +17,9 @@ use Rattle.asm.specs.declared.OlaAsmOperand.{OlaAsmOperand}
 use Rattle.asm.specs.declared.OlaAsmOperand.TheVariants.{Empty, ImmediateOperand, RegisterOperand, RegisterWithOffset, RegisterWithFactoredRegOffset, SpecialReg, Label, Identifier}
 use Rattle.asm.specs.declared.OlaAsmInstruction.{OlaAsmInstruction}
 use Rattle.asm.specs.declared.AsmRow.TheVariants.{Instruction}
-use Rattle.asm.specs.declared.RowRead.TheVariants.{Is}
 use Rattle.asm_laws.proofs.ShapeLaws.{OperandHolds, row_arranged}
+use Rattle.vm_hardware.specs.declared.OlaRegister.{OlaRegister}
+use Rattle.vm_hardware.specs.declared.OlaSpecialRegister.{OlaSpecialRegister}
 
 -- the number, offset or factor of an operand is below p
 abbrev pub OperandBelow : OlaAsmOperand → Type 0
@@ -44,33 +40,33 @@ pub record OperandsBelow (i : OlaAsmInstruction) : Type 0 where
 
 -- ---- a number read
 
-abbrev FoundBelow : ImmediateFound → Type 0
-FoundBelow (IsNumber v) = v.number < order
-FoundBelow NoNumber = Unit {0}
+abbrev FoundBelow : Option ImmediateValue → Type 0
+FoundBelow (Some v) = v.number < order
+FoundBelow None = Unit {0}
 
 found_below : (s : List ℕ) → FoundBelow (source_number s)
 unfolding source_number
 found_below s = go (is_numeral (hex_numeral s)) (source_number s) refl
   where
-    go : (t : Bool) (x : ImmediateFound) → cond t (signed false (hex_numeral s)) (number_of s) ≡ x → FoundBelow x
-    go true (IsNumber v) e = signed_below false (hex_numeral s) v e
-    go false (IsNumber v) e = number_below s v e
-    go t NoNumber e = tt
+    go : (t : Bool) (x : Option ImmediateValue) → cond t (signed false (hex_numeral s)) (number_of s) ≡ x → FoundBelow x
+    go true (Some v) e = signed_below false (hex_numeral s) v e
+    go false (Some v) e = number_below s v e
+    go t None e = tt
 
 -- ---- an operand read
 
-with_number_lem : (f : ImmediateValue → OlaAsmOperand) → ((v : ImmediateValue) → v.number < order → OperandBelow (f v)) → (x : ImmediateFound) → FoundBelow x
+with_number_lem : (f : ImmediateValue → OlaAsmOperand) → ((v : ImmediateValue) → v.number < order → OperandBelow (f v)) → (x : Option ImmediateValue) → FoundBelow x
     → OperandHolds OperandBelow (with_number f x)
-with_number_lem f g (IsNumber v) h = g v h
-with_number_lem f g NoNumber h = tt
+with_number_lem f g (Some v) h = g v h
+with_number_lem f g None h = tt
 
-of_register_lem : (x : RegisterFound) → OperandHolds OperandBelow (of_register x)
-of_register_lem (IsRegister r) = tt
-of_register_lem NoRegister = tt
+of_register_lem : (x : Option OlaRegister) → OperandHolds OperandBelow (of_register x)
+of_register_lem (Some r) = tt
+of_register_lem None = tt
 
-of_special_lem : (x : SpecialFound) → OperandHolds OperandBelow (of_special x)
-of_special_lem (IsSpecial t) = tt
-of_special_lem NoSpecial = tt
+of_special_lem : (x : Option OlaSpecialRegister) → OperandHolds OperandBelow (of_special x)
+of_special_lem (Some t) = tt
+of_special_lem None = tt
 
 -- a shape whose operands have numbers below p
 abbrev ShapeBelow : Shape → Type 0
@@ -101,7 +97,7 @@ match_below ss (one_more {x = s} {xs = rest} h hs) q = go (s.fits q.text) (h q) 
     go false a b = b
 
 -- every number of a row read is below p
-pub numbers_below : (ps : List Part) (i : OlaAsmInstruction) → row_of ps ≡ Is (Instruction i) → OperandsBelow i
+pub numbers_below : (ps : List Part) (i : OlaAsmInstruction) → row_of ps ≡ Some (Instruction i) → OperandsBelow i
 numbers_below ps i e =
     let a = row_arranged OperandBelow tt (match_below shapes shapes_below) ps i e in
     record { op0 = a.op0; op1 = a.op1; dst = a.dst }

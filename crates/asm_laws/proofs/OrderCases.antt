@@ -1,4 +1,5 @@
 -- The laws of OrderLaws on examples.
+use Rattle.std.specs.Prelude.{Some}
 use Prim.Native.Nat.{ℕ, ◌<◌}
 use mathlib.Core.Path.{◌≡◌, refl}
 use mathlib.Core.List.{List, [], ◌∷◌, ◌++◌, map}
@@ -13,7 +14,6 @@ use Rattle.vm_hardware.specs.declared.OlaSpecialRegister.TheVariants.{PC}
 use Rattle.asm.specs.Parts.{Part}
 use Rattle.asm.specs.Operands.{is_source_number, name, shapes, first_match, operand_of}
 use Rattle.asm.specs.declared.OlaAsmOperand.TheVariants.{RegisterOperand, SpecialReg, Identifier}
-use Rattle.asm.specs.declared.OperandRead.TheVariants.{Is}
 use Rattle.asm_laws.proofs.OrderLaws.{unnamed, shape_at, each_place, one_shape, names_apart, is_among, any_order}
 
 -- `[rA,rB]`, at 1, has none of the other seven
@@ -39,7 +39,7 @@ abbrev piece : List ℕ → Part
 piece x = record { start = 0; text = x }
 
 names_first :
-    (operand_of (piece (bytes "r1")) ≡ Is (RegisterOperand R1)) × (first_match (name ∷ unnamed) (piece (bytes "r1")) ≡ Is (Identifier 0 2))
-    × (operand_of (piece (bytes "pc")) ≡ Is (SpecialReg PC)) × (first_match (name ∷ unnamed) (piece (bytes "pc")) ≡ Is (Identifier 0 2))
+    (operand_of (piece (bytes "r1")) ≡ Some (RegisterOperand R1)) × (first_match (name ∷ unnamed) (piece (bytes "r1")) ≡ Some (Identifier 0 2))
+    × (operand_of (piece (bytes "pc")) ≡ Some (SpecialReg PC)) × (first_match (name ∷ unnamed) (piece (bytes "pc")) ≡ Some (Identifier 0 2))
 unfolding is_letter is_digit is_word same scan all registers register_of special_of is_source_number shapes first_match
 names_first = (refl, refl, refl, refl)

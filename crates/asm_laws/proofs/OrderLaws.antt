@@ -1,6 +1,7 @@
 -- Document 02, Point 5: what comes of it that shapes are "tried in that file's own order, one after another". A piece has one at most of the eight shapes before
 -- the name, and a name has none of them but a register's or a special register's. So whatever the order of the nine, with these two before the name a piece is
 -- read alike.
+use Rattle.std.specs.Prelude.{Option, None}
 use Prim.Native.Nat.{ℕ, zero, suc, ◌-◌, ◌<◌}
 use mathlib.Core.Path.{◌≡◌, refl, sym, ap, ◌∙◌, subst}
 use mathlib.Core.List.{List, [], ◌∷◌, ◌++◌, map, append-nil}
@@ -19,10 +20,9 @@ use Rattle.vm_hardware.specs.Registers.{register_of, special_of}
 use Rattle.vm_operands.specs.Numbers.{unsigned}
 use Rattle.asm.specs.Parts.{Part}
 use Rattle.asm.specs.Operands.{byte_is, is_digits, hex_numeral, is_numeral, is_source_number, is_register_at, inner, is_bracketed, is_name, Shape, factored, paired, bare, offset, register, number, label, special, name, shapes, first_match, operand_of}
-use Rattle.asm.specs.declared.OperandRead.{OperandRead}
-use Rattle.asm.specs.declared.OperandRead.TheVariants.{Unreadable}
 use Rattle.asm_laws.proofs.LabelLaws.{is_name_first}
 use Rattle.asm_laws.proofs.SpellingLaws.{before_factor, before_offset, hex_first, inner_first, inner_some}
+use Rattle.asm.specs.declared.OlaAsmOperand.{OlaAsmOperand}
 
 -- the shapes before the name, in 01's order, and the one at a place
 abbrev pub unnamed : List Shape
@@ -247,7 +247,7 @@ module _ (q : Part) where
   place = only_place q.text
 
   -- by the one shape that can fit, where that is tried, and those behind
-  abbrev read : Bool → List Shape → OperandRead
+  abbrev read : Bool → List Shape → Option OlaAsmOperand
   read tried rest = cond ((shape_at place).fits q.text && tried) ((shape_at place).means q) (first_match rest q)
 
   -- that is how a list of the eight reads
@@ -272,7 +272,7 @@ module _ (q : Part) where
     unfolding shapes first_match all
     any_order r s =
         by_places before (name ∷ map shape_at after) b
-        ∙ ap (λ (o : OperandRead). cond ((shape_at place).fits q.text && is_among place before) ((shape_at place).means q) (cond (is_name q.text) (name.means q) o)) behind
+        ∙ ap (λ (o : Option OlaAsmOperand). cond ((shape_at place).fits q.text && is_among place before) ((shape_at place).means q) (cond (is_name q.text) (name.means q) o)) behind
         ∙ go ((shape_at place).fits q.text) refl (is_among place before) refl (is_among place after) (each place here) (is_name q.text) refl
         ∙ ap (λ (t : Bool). read t (name ∷ [])) (sym (own place here))
         ∙ sym (by_places places (name ∷ []) refl)
@@ -292,8 +292,8 @@ module _ (q : Part) where
             at (inr p) = true≢false (sym s ∙ rw (← p) h)
 
         go : (f : Bool) → (shape_at place).fits q.text ≡ f → (t : Bool) → is_among place before ≡ t → (u : Bool) → t || u ≡ true → (n : Bool) → is_name q.text ≡ n
-            → cond (f && t) ((shape_at place).means q) (cond n (name.means q) (cond (f && u) ((shape_at place).means q) Unreadable))
-            ≡ cond (f && true) ((shape_at place).means q) (cond n (name.means q) Unreadable)
+            → cond (f && t) ((shape_at place).means q) (cond n (name.means q) (cond (f && u) ((shape_at place).means q) None))
+            ≡ cond (f && true) ((shape_at place).means q) (cond n (name.means q) None)
         go true e true i u j n k = refl
         go true e false i true j true k = absurd (no_name e k i)
         go true e false i true j false k = refl

@@ -1,9 +1,9 @@
 -- A text that stands further on: its pieces, rows and sums are the same but for their places.
+use Rattle.std.specs.Prelude.{Option, Some, None}
 use Prim.Native.Nat.{ℕ, suc, ◌+◌, ◌-◌}
 use mathlib.Core.Path.{◌≡◌, refl, ap, ◌∙◌}
 use mathlib.Core.List.{List, [], ◌∷◌, map}
 use mathlib.Core.Bool.{Bool, true, false, cond}
-use mathlib.Core.Option.{Option, none, some}
 use native.Mathlib.Nat.{add_assoc}
 use lib.ListN.{length, length-map}
 use Rattle.text.specs.Bytes.{bytes, is_space}
@@ -12,19 +12,11 @@ use Rattle.text.specs.Scan.{parts, is_empty}
 use Rattle.text.specs.Answer.{Answer, ok, refused, ◌>>=◌}
 use Rattle.text.specs.All.{All, none_left, one_more}
 use Rattle.vm_hardware.specs.Registers.{register_of, special_of}
-use Rattle.vm_hardware.specs.declared.RegisterFound.{RegisterFound}
-use Rattle.vm_hardware.specs.declared.RegisterFound.TheVariants.{Is as IsRegister, Nothing as NoRegister}
-use Rattle.vm_hardware.specs.declared.SpecialFound.{SpecialFound}
-use Rattle.vm_hardware.specs.declared.SpecialFound.TheVariants.{Is as IsSpecial, Nothing as NoSpecial}
 use Rattle.vm_opcodes.specs.Operations.{row_places}
 use Rattle.vm_opcodes.specs.declared.OlaOpcode.{OlaOpcode}
-use Rattle.vm_opcodes.specs.declared.OpcodeFound.{OpcodeFound}
-use Rattle.vm_opcodes.specs.declared.OpcodeFound.TheVariants.{Is as IsOpcode, Nothing as NoOpcode}
 use Rattle.vm_opcodes.specs.declared.RowPlaces.{RowPlaces}
 use Rattle.vm_opcodes.specs.declared.RowPlaces.TheVariants.{DstOp0Op1, DstOp1, DstMemory, MemoryDst, Op0Op1, Op1, Bare}
 use Rattle.vm_operands.specs.declared.ImmediateValue.{ImmediateValue}
-use Rattle.vm_operands.specs.declared.ImmediateFound.{ImmediateFound}
-use Rattle.vm_operands.specs.declared.ImmediateFound.TheVariants.{Is as IsNumber, Nothing as NoNumber}
 use Rattle.vm_mnemonics.specs.Mnemonics.{operation_of}
 use Rattle.asm.specs.Parts.{Part, placed, filled_parts, without_comment, pieces_from, line_pieces, row_pieces}
 use Rattle.asm.specs.Operands.{Shape, with_number, source_number, register_of_place, inner, of_register, of_special, shapes, first_match, operand_of}
@@ -32,15 +24,11 @@ use Rattle.asm.specs.Rows.{arranged, one_operand_more, operands_of, arranged_if,
 use Rattle.asm.specs.Survey.{takes_word, word_count, is_label_row, is_main_row, count_rows, call_place, or_place, first_call, main_start, main_end, tally_of, moved_place, moved_tally}
 use Rattle.asm.specs.declared.OlaAsmOperand.{OlaAsmOperand}
 use Rattle.asm.specs.declared.OlaAsmOperand.TheVariants.{Empty, ImmediateOperand, RegisterOperand, RegisterWithOffset, RegisterWithFactoredRegOffset, SpecialReg, Label, Identifier}
-use Rattle.asm.specs.declared.OperandRead.{OperandRead}
-use Rattle.asm.specs.declared.OperandRead.TheVariants.{Is as IsOperand, Unreadable as NoOperand}
 use Rattle.asm.specs.declared.OlaAsmInstruction.{OlaAsmInstruction}
 use Rattle.asm.specs.declared.AsmRow.{AsmRow}
 use Rattle.asm.specs.declared.AsmRow.TheVariants.{Instruction, LabelCall, LabelJmp, LabelProphet}
-use Rattle.asm.specs.declared.RowRead.{RowRead}
-use Rattle.asm.specs.declared.RowRead.TheVariants.{Is, Unreadable}
-use Rattle.asm.specs.declared.PlaceFound.{PlaceFound}
-use Rattle.asm.specs.declared.PlaceFound.TheVariants.{At, Nothing}
+use Rattle.vm_hardware.specs.declared.OlaRegister.{OlaRegister}
+use Rattle.vm_hardware.specs.declared.OlaSpecialRegister.{OlaSpecialRegister}
 
 -- ---- n bytes further on
 
@@ -60,14 +48,14 @@ moved_operand n (Label start k) = Label (n + start) k
 moved_operand n (Identifier start k) = Identifier (n + start) k
 
 -- what a piece was read as
-abbrev pub moved_read : ℕ → OperandRead → OperandRead
-moved_read n (IsOperand o) = IsOperand (moved_operand n o)
-moved_read n NoOperand = NoOperand
+abbrev pub moved_read : ℕ → Option OlaAsmOperand → Option OlaAsmOperand
+moved_read n (Some o) = Some (moved_operand n o)
+moved_read n None = None
 
 -- operands, if all were read
 abbrev pub moved_operands : ℕ → Option (List OlaAsmOperand) → Option (List OlaAsmOperand)
-moved_operands n (some os) = some (map (moved_operand n) os)
-moved_operands n none = none
+moved_operands n (Some os) = Some (map (moved_operand n) os)
+moved_operands n None = None
 
 -- an instruction, by its operands
 abbrev pub moved_instruction : ℕ → OlaAsmInstruction → OlaAsmInstruction
@@ -82,13 +70,13 @@ moved_row n (LabelProphet start k) = LabelProphet (n + start) k
 
 -- a label row, if it was one
 abbrev pub moved_label : ℕ → Option AsmRow → Option AsmRow
-moved_label n (some r) = some (moved_row n r)
-moved_label n none = none
+moved_label n (Some r) = Some (moved_row n r)
+moved_label n None = None
 
 -- what pieces were read as
-abbrev pub moved_row_read : ℕ → RowRead → RowRead
-moved_row_read n (Is r) = Is (moved_row n r)
-moved_row_read n Unreadable = Unreadable
+abbrev pub moved_row_read : ℕ → Option AsmRow → Option AsmRow
+moved_row_read n (Some r) = Some (moved_row n r)
+moved_row_read n None = None
 
 -- the rows, or the same refusal
 abbrev pub moved_rows : ℕ → Answer (List AsmRow) → Answer (List AsmRow)
@@ -96,8 +84,8 @@ moved_rows n (ok rs) = ok (map (moved_row n) rs)
 moved_rows n (refused k d) = refused k d
 
 -- operands put into places: either none were, or an instruction was made, here and further on
-module _ (n : ℕ) (R : RowRead → RowRead → Type 0) (unread : R Unreadable Unreadable)
-    (read : (i : OlaAsmInstruction) → R (Is (Instruction i)) (Is (Instruction (moved_instruction n i)))) where
+module _ (n : ℕ) (R : Option AsmRow → Option AsmRow → Type 0) (unread : R None None)
+    (read : (i : OlaAsmInstruction) → R (Some (Instruction i)) (Some (Instruction (moved_instruction n i)))) where
   -- by the places of the operation
   arranged_related : (o : OlaOpcode) (p : RowPlaces) (os : List OlaAsmOperand) → R (arranged o p os) (arranged o p (map (moved_operand n) os))
   unfolding arranged
@@ -129,11 +117,11 @@ module _ (n : ℕ) (R : RowRead → RowRead → Type 0) (unread : R Unreadable U
   arranged_related o Bare (a ∷ os) = unread
 
   -- and where an operation and operands were found
-  pub arranged_if_related : (f : OpcodeFound) (os : Option (List OlaAsmOperand)) → R (arranged_if f os) (arranged_if f (moved_operands n os))
+  pub arranged_if_related : (f : Option OlaOpcode) (os : Option (List OlaAsmOperand)) → R (arranged_if f os) (arranged_if f (moved_operands n os))
   unfolding arranged_if
-  arranged_if_related NoOpcode os = unread
-  arranged_if_related (IsOpcode o) none = unread
-  arranged_if_related (IsOpcode o) (some os) = arranged_related o (row_places o) os
+  arranged_if_related None os = unread
+  arranged_if_related (Some o) None = unread
+  arranged_if_related (Some o) (Some os) = arranged_related o (row_places o) os
 
 module _ (n : ℕ) where
   -- ---- pieces
@@ -183,19 +171,19 @@ module _ (n : ℕ) where
 
   -- an operand made of a number has no place
   number_moved : (f : ImmediateValue → OlaAsmOperand) → ((v : ImmediateValue) → f v ≡ moved_operand n (f v))
-      → (x : ImmediateFound) → with_number f x ≡ moved_read n (with_number f x)
-  number_moved f e (IsNumber v) = ap IsOperand (e v)
-  number_moved f e NoNumber = refl
+      → (x : Option ImmediateValue) → with_number f x ≡ moved_read n (with_number f x)
+  number_moved f e (Some v) = ap Some (e v)
+  number_moved f e None = refl
 
   -- nor has a register
-  register_moved : (x : RegisterFound) → of_register x ≡ moved_read n (of_register x)
-  register_moved (IsRegister r) = refl
-  register_moved NoRegister = refl
+  register_moved : (x : Option OlaRegister) → of_register x ≡ moved_read n (of_register x)
+  register_moved (Some r) = refl
+  register_moved None = refl
 
   -- nor a special register
-  special_moved : (x : SpecialFound) → of_special x ≡ moved_read n (of_special x)
-  special_moved (IsSpecial t) = refl
-  special_moved NoSpecial = refl
+  special_moved : (x : Option OlaSpecialRegister) → of_special x ≡ moved_read n (of_special x)
+  special_moved (Some t) = refl
+  special_moved None = refl
 
   -- only a label and a name have a place
   shapes_move : All Moves shapes
@@ -229,10 +217,10 @@ module _ (n : ℕ) where
   operands_moved [] = refl
   operands_moved (q ∷ qs) = rw (first_moved shapes_move q, operands_moved qs) (go (operand_of q) (operands_of qs))
     where
-      go : (r : OperandRead) (t : Option (List OlaAsmOperand)) → one_operand_more (moved_read n r) (moved_operands n t) ≡ moved_operands n (one_operand_more r t)
-      go NoOperand t = refl
-      go (IsOperand o) none = refl
-      go (IsOperand o) (some os) = refl
+      go : (r : Option OlaAsmOperand) (t : Option (List OlaAsmOperand)) → one_operand_more (moved_read n r) (moved_operands n t) ≡ moved_operands n (one_operand_more r t)
+      go None t = refl
+      go (Some o) None = refl
+      go (Some o) (Some os) = refl
 
   -- ---- rows
 
@@ -242,29 +230,29 @@ module _ (n : ℕ) where
   label_moved q = go (is_call_row q.text) (is_pair_row (bytes "LBL") q.text) (is_pair_row (bytes "PROPHET") q.text) q.start (length q.text - 1)
     where
       go : (a b c : Bool) (i k : ℕ)
-          → cond a (some (LabelCall (n + i) k)) (cond b (some (LabelJmp (n + i) k)) (cond c (some (LabelProphet (n + i) k)) none))
-          ≡ moved_label n (cond a (some (LabelCall i k)) (cond b (some (LabelJmp i k)) (cond c (some (LabelProphet i k)) none)))
+          → cond a (Some (LabelCall (n + i) k)) (cond b (Some (LabelJmp (n + i) k)) (cond c (Some (LabelProphet (n + i) k)) None))
+          ≡ moved_label n (cond a (Some (LabelCall i k)) (cond b (Some (LabelJmp i k)) (cond c (Some (LabelProphet i k)) None)))
       go true b c i k = refl
       go false true c i k = refl
       go false false true i k = refl
       go false false false i k = refl
 
   -- an instruction has the operands moved
-  arranged_moved : (f : OpcodeFound) (os : Option (List OlaAsmOperand)) → arranged_if f (moved_operands n os) ≡ moved_row_read n (arranged_if f os)
+  arranged_moved : (f : Option OlaOpcode) (os : Option (List OlaAsmOperand)) → arranged_if f (moved_operands n os) ≡ moved_row_read n (arranged_if f os)
   arranged_moved = arranged_if_related n (λ x y. y ≡ moved_row_read n x) refl (λ i. refl)
 
   -- a row from its pieces
   row_moved : (ps : List Part) → row_of (map (moved_part n) ps) ≡ moved_row_read n (row_of ps)
   unfolding row_of
   row_moved [] = refl
-  row_moved (q ∷ []) = rw (label_moved q) (go (label_row q) (arranged_moved (operation_of q.text) (some [])))
+  row_moved (q ∷ []) = rw (label_moved q) (go (label_row q) (arranged_moved (operation_of q.text) (Some [])))
     where
-      other : RowRead
-      other = arranged_if (operation_of q.text) (some [])
+      other : Option AsmRow
+      other = arranged_if (operation_of q.text) (Some [])
 
       go : (l : Option AsmRow) → other ≡ moved_row_read n other → or_else_row (moved_label n l) other ≡ moved_row_read n (or_else_row l other)
-      go (some r) e = refl
-      go none e = e
+      go (Some r) e = refl
+      go None e = e
   row_moved (q ∷ r ∷ rs) = ap (arranged_if (operation_of q.text)) (operands_moved (r ∷ rs)) ∙ arranged_moved (operation_of q.text) (operands_of (r ∷ rs))
 
   -- the rows read further on are those read here, moved
@@ -273,11 +261,11 @@ module _ (n : ℕ) where
   read_moved k [] = refl
   read_moved k (ps ∷ pss) = rw (row_moved ps, read_moved (suc k) pss) (go (row_of ps) (read_rows (suc k) pss))
     where
-      go : (r : RowRead) (x : Answer (List AsmRow))
+      go : (r : Option AsmRow) (x : Answer (List AsmRow))
           → (row_read k (moved_row_read n r) >>= λ r. moved_rows n x >>= λ rs. ok (r ∷ rs)) ≡ moved_rows n (row_read k r >>= λ r. x >>= λ rs. ok (r ∷ rs))
-      go Unreadable x = refl
-      go (Is r) (refused m d) = refl
-      go (Is r) (ok rs) = refl
+      go None x = refl
+      go (Some r) (refused m d) = refl
+      go (Some r) (ok rs) = refl
 
   -- ---- sums
 
@@ -337,12 +325,12 @@ module _ (n : ℕ) where
   place_moved (LabelProphet start k) = refl
 
   -- the first of two places
-  or_moved : (a b : PlaceFound) → or_place (moved_place n a) (moved_place n b) ≡ moved_place n (or_place a b)
-  or_moved (At i) b = refl
-  or_moved Nothing b = refl
+  or_moved : (a b : Option ℕ) → or_place (moved_place n a) (moved_place n b) ≡ moved_place n (or_place a b)
+  or_moved (Some i) b = refl
+  or_moved None b = refl
 
   -- one of two places by a test
-  cond_moved : (t : Bool) (a b : PlaceFound) → cond t (moved_place n a) (moved_place n b) ≡ moved_place n (cond t a b)
+  cond_moved : (t : Bool) (a b : Option ℕ) → cond t (moved_place n a) (moved_place n b) ≡ moved_place n (cond t a b)
   cond_moved true a b = refl
   cond_moved false a b = refl
 

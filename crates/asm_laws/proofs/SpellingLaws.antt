@@ -1,5 +1,6 @@
 -- Document 02, Point 4: which texts are read as a number n since it, that every other text is read as it was, and that a hexadecimal number is the number
 -- that the same value is in decimal, which is "the same source in decimal" of the comparison with the Rust.
+use Rattle.std.specs.Prelude.{Option, Some, None}
 use Prim.Native.Nat.{ℕ, suc, ◌-◌, ◌^◌, ◌<◌, ◌≤◌}
 use mathlib.Core.Path.{◌≡◌, refl, sym, ap, ◌∙◌}
 use mathlib.Core.List.{List, [], ◌∷◌}
@@ -14,20 +15,16 @@ use Rattle.text.specs.Bytes.{is_digit, is_letter, same}
 use Rattle.text.specs.Scan.{scan, all, is_empty}
 use Rattle.text.proofs.Laws.{both_false, nowhere_among}
 use Rattle.text_read.specs.Numerals.{value_from, numeral}
-use Rattle.text_read.specs.declared.Numeral.{Numeral}
-use Rattle.text_read.specs.declared.Numeral.TheVariants.{Value, Nothing as NoNumeral}
 use Rattle.text_read.proofs.Laws.{numeral_value, numeral_below}
 use Rattle.text_write.specs.Digits.{digit_count, prefixed_text, fewest_text, sixteen_text, decimal_text}
 use Rattle.text_write.proofs.Laws.{length_decimal, length_prefixed, digit_count_positive, digit_count_fewest, digit_count_enough}
 use Rattle.vm_hardware.specs.Registers.{register_of, special_of}
 use Rattle.vm_operands.specs.Numbers.{order, immediate, unsigned, is_minus, signed, number_of}
-use Rattle.vm_operands.specs.declared.ImmediateFound.TheVariants.{Is}
 use Rattle.vm_operands.proofs.DigitLaws.{digits_read, digits_read_to, digits_over, decimal_digits}
 use Rattle.asm.specs.Parts.{Part}
 use Rattle.asm.specs.Operands.{byte_is, is_digits, hex_numeral, is_numeral, is_source_number, source_number, is_register_at, register_of_place, inner, is_bracketed, with_number, Shape, paired, bare, register, number, label, special, name, shapes, first_match, operand_of}
 use Rattle.asm.specs.declared.OlaAsmOperand.TheVariants.{ImmediateOperand, RegisterWithOffset, RegisterWithFactoredRegOffset}
-use Rattle.asm.specs.declared.OperandRead.{OperandRead}
-use Rattle.asm.specs.declared.OperandRead.TheVariants.{Unreadable}
+use Rattle.asm.specs.declared.OlaAsmOperand.{OlaAsmOperand}
 
 -- ---- what changes, and what stays
 
@@ -37,26 +34,26 @@ unfolding is_source_number source_number
 numbers_stay x e = (rw e (or-false (is_digits (unsigned x))), rw e)
 
 -- what a numeral says, where it is one
-numeral_told : (n : Numeral) → is_numeral n ≡ true → (v : ℕ) × (n ≡ Value v)
-numeral_told (Value v) e = (v, refl)
-numeral_told NoNumeral e = absurd (true≢false (sym e))
+numeral_told : (n : Option ℕ) → is_numeral n ≡ true → (v : ℕ) × (n ≡ Some v)
+numeral_told (Some v) e = (v, refl)
+numeral_told None e = absurd (true≢false (sym e))
 
 module _ (x : List ℕ) (e : is_numeral (hex_numeral x) ≡ true) where
   -- the value of its digits, which is below 2 ^ 64
   hex_told : (byte_is x 0 48 && byte_is x 1 120 && ltb (length x) 19 ≡ true) × (is_numeral (numeral 16 (2 ^ 64) (drop 2 x)) ≡ true)
   hex_told = go (byte_is x 0 48 && byte_is x 1 120 && ltb (length x) 19) refl e
     where
-      go : (t : Bool) → byte_is x 0 48 && byte_is x 1 120 && ltb (length x) 19 ≡ t → is_numeral (cond t (numeral 16 (2 ^ 64) (drop 2 x)) NoNumeral) ≡ true
+      go : (t : Bool) → byte_is x 0 48 && byte_is x 1 120 && ltb (length x) 19 ≡ t → is_numeral (cond t (numeral 16 (2 ^ 64) (drop 2 x)) None) ≡ true
           → (byte_is x 0 48 && byte_is x 1 120 && ltb (length x) 19 ≡ true) × (is_numeral (numeral 16 (2 ^ 64) (drop 2 x)) ≡ true)
       go true f g = (f, g)
       go false f g = absurd (true≢false (sym g))
 
-  hex_value : (hex_numeral x ≡ Value (value_from 16 0 (drop 2 x))) × (value_from 16 0 (drop 2 x) < 2 ^ 64)
+  hex_value : (hex_numeral x ≡ Some (value_from 16 0 (drop 2 x))) × (value_from 16 0 (drop 2 x) < 2 ^ 64)
   hex_value =
       let n = numeral_told (numeral 16 (2 ^ 64) (drop 2 x)) hex_told.1 in
       let v : n.0 ≡ value_from 16 0 (drop 2 x) = numeral_value 16 (2 ^ 64) n.0 (drop 2 x) n.1 in
       let b : n.0 < 2 ^ 64 = numeral_below 16 (2 ^ 64) n.0 (drop 2 x) n.1 in
-      (rw hex_told.0 (n.1 ∙ ap Value v), rw (← v) b)
+      (rw hex_told.0 (n.1 ∙ ap Some v), rw (← v) b)
 
   -- it begins with `0x`
   pub hex_first : (byte_is x 0 48 ≡ true) × (byte_is x 1 120 ≡ true)
@@ -109,11 +106,11 @@ module _ (v : ℕ) (h : v < 2 ^ 64) where
   written_number = rw (no_minus, no_plus, some_digit, all_digits)
 
   -- and what it is goes by its value
-  written_value : source_number (decimal_text v) ≡ signed false (Value v)
+  written_value : source_number (decimal_text v) ≡ signed false (Some v)
   unfolding source_number number_of signed
   written_value = rw (no_x, and-false (byte_is (decimal_text v) 0 48), no_minus, no_plus) (go (ltb v order) refl)
     where
-      go : (t : Bool) → ltb v order ≡ t → signed false (numeral 10 order (decimal_text v)) ≡ signed false (Value v)
+      go : (t : Bool) → ltb v order ≡ t → signed false (numeral 10 order (decimal_text v)) ≡ signed false (Some v)
       go true f = ap (signed false) (digits_read_to 10 (omega arith) (omega arith) (digit_count 10 63 v) v order (digit_count_positive 10 63 v) enough (ltb-true v order f))
       go false f = ap (signed false) (digits_over 10 (omega arith) (omega arith) (digit_count 10 63 v) v order enough (ltb-false v order f)) ∙ sym (rw f)
 
@@ -124,21 +121,21 @@ pub spellings_agree : (x : List ℕ) → is_numeral (hex_numeral x) ≡ true →
 unfolding source_number
 spellings_agree x e =
     let h = hex_value x e in
-    let a : source_number x ≡ signed false (Value (value_from 16 0 (drop 2 x))) = rw e (ap (signed false) h.0) in
+    let a : source_number x ≡ signed false (Some (value_from 16 0 (drop 2 x))) = rw e (ap (signed false) h.0) in
     (written_number (value_from 16 0 (drop 2 x)) h.1, a ∙ sym (written_value (value_from 16 0 (drop 2 x)) h.1))
 
 -- What is printed as `0x` and up to sixteen digits, and the decimal text, is read as itself,
-pub printed_reads : (n v : ℕ) → 1 ≤ n → n ≤ 16 → v < 16 ^ n → v < order → (source_number (prefixed_text n v) ≡ Is (immediate v)) × (source_number (decimal_text v) ≡ Is (immediate v))
+pub printed_reads : (n v : ℕ) → 1 ≤ n → n ≤ 16 → v < 16 ^ n → v < order → (source_number (prefixed_text n v) ≡ Some (immediate v)) × (source_number (decimal_text v) ≡ Some (immediate v))
 unfolding source_number signed
 printed_reads n v some most h k =
     let w : v < 2 ^ 64 = lt_trans k (lit< tt) in
     let l = length_prefixed n v in
     let s : ltb (length (prefixed_text n v)) 19 ≡ true = lt-ltb (length (prefixed_text n v)) 19 (omega arith) in
-    let r : hex_numeral (prefixed_text n v) ≡ Value v = rw s (digits_read n v (2 ^ 64) some h w) in
+    let r : hex_numeral (prefixed_text n v) ≡ Some v = rw s (digits_read n v (2 ^ 64) some h w) in
     (rw (r, lt-ltb v order k), written_value v w ∙ rw (lt-ltb v order k))
 
 -- so what the bytecode prints, a number or a word below p, can be pasted as it stands
-pub pasted_reads : (v : ℕ) → v < order → (source_number (fewest_text v) ≡ Is (immediate v)) × (source_number (sixteen_text v) ≡ Is (immediate v))
+pub pasted_reads : (v : ℕ) → v < order → (source_number (fewest_text v) ≡ Some (immediate v)) × (source_number (sixteen_text v) ≡ Some (immediate v))
 pasted_reads v k =
     let w : v < 2 ^ 64 = lt_trans k (lit< tt) in
     let m = digit_count_fewest 16 63 15 v (omega arith) w in
@@ -179,15 +176,15 @@ abbrev pub has_hexadecimal : List ℕ → Bool
 has_hexadecimal x = before_factor x && is_numeral (hex_numeral (inner x 7)) || before_offset x && is_numeral (hex_numeral (inner x 4)) || is_numeral (hex_numeral x)
 
 -- of two shapes that differ in n alone, where the first has no hexadecimal one
-narrowed : (p d h : Bool) (a b c e : OperandRead) → p && h ≡ false → (h ≡ false → a ≡ b) → c ≡ e → cond (p && (d || h)) a c ≡ cond (p && d) b e
+narrowed : (p d h : Bool) (a b c e : Option OlaAsmOperand) → p && h ≡ false → (h ≡ false → a ≡ b) → c ≡ e → cond (p && (d || h)) a c ≡ cond (p && d) b e
 narrowed false d h a b c e k f g = g
 narrowed true d true a b c e k f g = absurd (true≢false k)
 narrowed true true false a b c e k f g = f refl
 narrowed true false false a b c e k f g = g
 
 module _ (q : Part) where
-  behind : (s : Shape) (c e : OperandRead) → c ≡ e → cond (s.fits q.text) (s.means q) c ≡ cond (s.fits q.text) (s.means q) e
-  behind s c e h = ap (λ (r : OperandRead). cond (s.fits q.text) (s.means q) r) h
+  behind : (s : Shape) (c e : Option OlaAsmOperand) → c ≡ e → cond (s.fits q.text) (s.means q) c ≡ cond (s.fits q.text) (s.means q) e
+  behind s c e h = ap (λ (r : Option OlaAsmOperand). cond (s.fits q.text) (s.means q) r) h
 
   -- every other piece is read as it was,
   pub pieces_stay : has_hexadecimal q.text ≡ false → operand_of q ≡ first_match decimal_shapes q
@@ -203,7 +200,7 @@ module _ (q : Part) where
       (narrowed true (is_digits (unsigned q.text)) (is_numeral (hex_numeral q.text)) (number.means q) (decimal_number.means q) rest rest a.1
       (λ k. ap (with_number ImmediateOperand) (numbers_stay q.text k).1) refl)))))
     where
-      rest : OperandRead
+      rest : Option OlaAsmOperand
       rest = first_match (label ∷ special ∷ name ∷ []) q
 
 -- the first byte of what stands in brackets from place k on is the byte there
@@ -230,13 +227,13 @@ no_digits [] h = refl
 no_digits (b ∷ y) h = rw h
 
 -- a piece in brackets has no shape behind those in brackets
-bracketed_else : (n : ℕ) (x : List ℕ) → byte_is x 0 91 ≡ true → first_match (register ∷ decimal_number ∷ label ∷ special ∷ name ∷ []) (record { start = n; text = x }) ≡ Unreadable
+bracketed_else : (n : ℕ) (x : List ℕ) → byte_is x 0 91 ≡ true → first_match (register ∷ decimal_number ∷ label ∷ special ∷ name ∷ []) (record { start = n; text = x }) ≡ None
 unfolding first_match register_of special_of same is_digit is_letter all scan
 bracketed_else n [] e = absurd (true≢false (sym e))
 bracketed_else n (b ∷ x) e = rw (eqb-true b 91 e, and-false (eqb (suc (length x)) 2))
 
 -- a piece that is a hexadecimal number has none of these shapes
-hexadecimal_else : (n : ℕ) (x : List ℕ) → byte_is x 0 48 ≡ true → byte_is x 1 120 ≡ true → first_match decimal_shapes (record { start = n; text = x }) ≡ Unreadable
+hexadecimal_else : (n : ℕ) (x : List ℕ) → byte_is x 0 48 ≡ true → byte_is x 1 120 ≡ true → first_match decimal_shapes (record { start = n; text = x }) ≡ None
 unfolding first_match register_of special_of same is_digit is_letter all scan
 hexadecimal_else n [] e f = absurd (true≢false (sym e))
 hexadecimal_else n (a ∷ []) e f = absurd (true≢false (sym f))
@@ -245,13 +242,13 @@ hexadecimal_else n (a ∷ b ∷ x) e f = rw (eqb-true a 48 e, eqb-true b 120 f, 
 module _ (q : Part) where
   -- the shapes in brackets, one after another, and then none
   none_fits : decimal_factored.fits q.text ≡ false → paired.fits q.text ≡ false → bare.fits q.text ≡ false → decimal_offset.fits q.text ≡ false
-      → is_bracketed q.text ≡ true → first_match decimal_shapes q ≡ Unreadable
+      → is_bracketed q.text ≡ true → first_match decimal_shapes q ≡ None
   unfolding first_match
   none_fits f p b o e =
       rw (f, p, b, o) (bracketed_else q.start q.text ((and-eq-true_iff (byte_is q.text 0 91) (byte_is q.text (length q.text - 1) 93)).0 e).0)
 
   -- with a hexadecimal offset
-  offset_was : before_offset q.text ≡ true → is_numeral (hex_numeral (inner q.text 4)) ≡ true → first_match decimal_shapes q ≡ Unreadable
+  offset_was : before_offset q.text ≡ true → is_numeral (hex_numeral (inner q.text 4)) ≡ true → first_match decimal_shapes q ≡ None
   offset_was p h =
       let x = hex_first (inner q.text 4) h in
       let l : 4 < length q.text - 1 = inner_there q.text 4 x.0 in
@@ -266,7 +263,7 @@ module _ (q : Part) where
       ((and-eq-true_iff (is_bracketed q.text) (is_register_at q.text 1)).0 b).0
 
   -- with a hexadecimal factor
-  factor_was : before_factor q.text ≡ true → is_numeral (hex_numeral (inner q.text 7)) ≡ true → first_match decimal_shapes q ≡ Unreadable
+  factor_was : before_factor q.text ≡ true → is_numeral (hex_numeral (inner q.text 7)) ≡ true → first_match decimal_shapes q ≡ None
   factor_was p h =
       let x = hex_first (inner q.text 7) h in
       let l : 7 < length q.text - 1 = inner_there q.text 7 x.0 in
@@ -282,11 +279,11 @@ module _ (q : Part) where
       ((and-eq-true_iff (is_bracketed q.text) (is_register_at q.text 1)).0 b).0
 
   -- and one with a hexadecimal n was unreadable
-  pub pieces_were : has_hexadecimal q.text ≡ true → first_match decimal_shapes q ≡ Unreadable
+  pub pieces_were : has_hexadecimal q.text ≡ true → first_match decimal_shapes q ≡ None
   pieces_were e = go (before_factor q.text && is_numeral (hex_numeral (inner q.text 7))) refl (before_offset q.text && is_numeral (hex_numeral (inner q.text 4))) refl e
     where
       go : (t : Bool) → before_factor q.text && is_numeral (hex_numeral (inner q.text 7)) ≡ t → (u : Bool) → before_offset q.text && is_numeral (hex_numeral (inner q.text 4)) ≡ u
-          → t || u || is_numeral (hex_numeral q.text) ≡ true → first_match decimal_shapes q ≡ Unreadable
+          → t || u || is_numeral (hex_numeral q.text) ≡ true → first_match decimal_shapes q ≡ None
       go true a u b f = let w = (and-eq-true_iff (before_factor q.text) (is_numeral (hex_numeral (inner q.text 7)))).0 a in factor_was w.0 w.1
       go false a true b f = let w = (and-eq-true_iff (before_offset q.text) (is_numeral (hex_numeral (inner q.text 4)))).0 b in offset_was w.0 w.1
       go false a false b f = let w = hex_first q.text f in hexadecimal_else q.start q.text w.0 w.1

@@ -1,4 +1,5 @@
 -- What one line adds to the survey of a text.
+use Rattle.std.specs.Prelude.{Option, Some, None}
 use Prim.Native.Nat.{ℕ, suc, ◌+◌, ◌<◌, ◌≤◌}
 use mathlib.Core.Path.{◌≡◌, refl, sym, ap, ◌∙◌}
 use mathlib.Core.List.{List, [], ◌∷◌, ◌++◌}
@@ -21,8 +22,6 @@ use Rattle.asm.specs.Survey.{tally_of, survey_from, joined_surveys}
 use Rattle.asm.specs.declared.OlaAsmInstruction.{OlaAsmInstruction}
 use Rattle.asm.specs.declared.AsmRow.{AsmRow}
 use Rattle.asm.specs.declared.AsmRow.TheVariants.{Instruction}
-use Rattle.asm.specs.declared.RowRead.{RowRead}
-use Rattle.asm.specs.declared.RowRead.TheVariants.{Is, Unreadable}
 use Rattle.asm.specs.declared.LineRead.TheVariants.{Blank, Row, Unreadable as NoRow}
 use Rattle.asm.specs.declared.Tally.{Tally}
 use Rattle.asm_laws.proofs.LengthLaws.{line_bytes, row_least, least_four}
@@ -41,11 +40,11 @@ unfolding read_rows ◌>>=◌
 read_later k [] = refl
 read_later k (ps ∷ pss) = go (row_of ps) (read_rows 0 pss) (read_later (suc k) pss) (read_later 1 pss)
   where
-    go : (r : RowRead) (x : Answer (List AsmRow)) → read_rows (suc k) pss ≡ later (suc k) x → read_rows 1 pss ≡ later 1 x
+    go : (r : Option AsmRow) (x : Answer (List AsmRow)) → read_rows (suc k) pss ≡ later (suc k) x → read_rows 1 pss ≡ later 1 x
         → (row_read k r >>= λ r. read_rows (suc k) pss >>= λ rs. ok (r ∷ rs)) ≡ later k (row_read 0 r >>= λ r. read_rows 1 pss >>= λ rs. ok (r ∷ rs))
-    go Unreadable x a b = ap (refused 3) (sym (add-zero k))
-    go (Is r) (ok rs) a b = rw (a, b)
-    go (Is r) (refused n d) a b = rw (a, b) (ap (refused n) (omega arith))
+    go None x a b = ap (refused 3) (sym (add-zero k))
+    go (Some r) (ok rs) a b = rw (a, b)
+    go (Some r) (refused n d) a b = rw (a, b) (ap (refused n) (omega arith))
 
 -- what the rows that pieces are read as add up to
 abbrev pub survey_pieces : List ℕ → List (List Part) → Answer Tally
@@ -62,13 +61,13 @@ read_append k [] qss = rw (read_later k qss, add-zero k) (same (read_rows 0 qss)
     same (refused n d) = refl
 read_append k (ps ∷ pss) qss = go (row_of ps) (read_rows (suc k) pss) (read_rows 0 qss) (read_append (suc k) pss qss)
   where
-    go : (r : RowRead) (x y : Answer (List AsmRow)) → read_rows (suc k) (pss ++ qss) ≡ (x >>= λ rs. later (suc k + length rs) y >>= λ qs. ok (rs ++ qs))
+    go : (r : Option AsmRow) (x y : Answer (List AsmRow)) → read_rows (suc k) (pss ++ qss) ≡ (x >>= λ rs. later (suc k + length rs) y >>= λ qs. ok (rs ++ qs))
         → (row_read k r >>= λ r. read_rows (suc k) (pss ++ qss) >>= λ rs. ok (r ∷ rs))
         ≡ ((row_read k r >>= λ r. x >>= λ rs. ok (r ∷ rs)) >>= λ rs. later (k + length rs) y >>= λ qs. ok (rs ++ qs))
-    go Unreadable x y a = refl
-    go (Is r) (refused n d) y a = rw a
-    go (Is r) (ok rs) (ok qs) a = rw a
-    go (Is r) (ok rs) (refused n d) a = rw a (ap (refused n) (omega arith))
+    go None x y a = refl
+    go (Some r) (refused n d) y a = rw a
+    go (Some r) (ok rs) (ok qs) a = rw a
+    go (Some r) (ok rs) (refused n d) a = rw a (ap (refused n) (omega arith))
 
 -- the survey of two runs of rows is theirs joined
 pub survey_append : (s : List ℕ) (pss qss : List (List Part)) → survey_pieces s (pss ++ qss) ≡ joined_surveys (survey_pieces s pss) (survey_pieces s qss)
@@ -126,27 +125,27 @@ pub line_blank : (ps : List Part) → line_of ps ≡ Blank → is_empty ps ≡ t
 line_blank [] h = refl
 line_blank (q ∷ qs) h = go (row_of (q ∷ qs)) h
   where
-    go : (x : RowRead) → of_row x ≡ Blank → false ≡ true
-    go (Is r) e = cc
-    go Unreadable e = cc
+    go : (x : Option AsmRow) → of_row x ≡ Blank → false ≡ true
+    go (Some r) e = cc
+    go None e = cc
 
 -- a row has a piece, and is what its pieces are read as
-pub line_row : (ps : List Part) (r : AsmRow) → line_of ps ≡ Row r → (is_empty ps ≡ false) × (row_of ps ≡ Is r)
+pub line_row : (ps : List Part) (r : AsmRow) → line_of ps ≡ Row r → (is_empty ps ≡ false) × (row_of ps ≡ Some r)
 line_row [] r h = let z : ◌≡◌ {A = ℕ} 0 1 = cc in absurd (omega arith)
 line_row (q ∷ qs) r h = (refl, go (row_of (q ∷ qs)) h)
   where
-    go : (x : RowRead) → of_row x ≡ Row r → x ≡ Is r
-    go (Is p) e = cc
-    go Unreadable e = cc
+    go : (x : Option AsmRow) → of_row x ≡ Row r → x ≡ Some r
+    go (Some p) e = cc
+    go None e = cc
 
 -- an unreadable line has a piece, and its pieces are no row
-pub line_unreadable : (ps : List Part) → line_of ps ≡ NoRow → (is_empty ps ≡ false) × (row_of ps ≡ Unreadable)
+pub line_unreadable : (ps : List Part) → line_of ps ≡ NoRow → (is_empty ps ≡ false) × (row_of ps ≡ None)
 line_unreadable [] h = let z : ◌≡◌ {A = ℕ} 0 1 = cc in absurd (omega arith)
 line_unreadable (q ∷ qs) h = (refl, go (row_of (q ∷ qs)) h)
   where
-    go : (x : RowRead) → of_row x ≡ NoRow → x ≡ Unreadable
-    go (Is p) e = cc
-    go Unreadable e = refl
+    go : (x : Option AsmRow) → of_row x ≡ NoRow → x ≡ None
+    go (Some p) e = cc
+    go None e = refl
 
 -- ---- the survey from a line on
 
@@ -175,7 +174,7 @@ module _ (s : List ℕ) (i : ℕ) where
       ∙ survey_append s (line_pieces (line_at s i) ∷ []) (pieces_after s (next_line s i))
       ∙ ap (λ (x : Answer Tally). joined_surveys x (survey_from s (next_line s i))) (one (line_pieces (line_at s i)) w.1)
     where
-      one : (ps : List Part) → row_of ps ≡ Is r → survey_pieces s (ps ∷ []) ≡ ok (tally_of s (r ∷ []))
+      one : (ps : List Part) → row_of ps ≡ Some r → survey_pieces s (ps ∷ []) ≡ ok (tally_of s (r ∷ []))
       one ps e = rw e
 
   -- an unreadable row is the answer, whatever follows
@@ -185,7 +184,7 @@ module _ (s : List ℕ) (i : ℕ) where
       let w = line_unreadable (line_pieces (line_at s i)) h in
       ap (survey_pieces s) (pieces_row w.0) ∙ one (line_pieces (line_at s i)) w.1 (pieces_after s (next_line s i))
     where
-      one : (ps : List Part) → row_of ps ≡ Unreadable → (pss : List (List Part)) → survey_pieces s (ps ∷ pss) ≡ refused 3 0
+      one : (ps : List Part) → row_of ps ≡ None → (pss : List (List Part)) → survey_pieces s (ps ∷ pss) ≡ refused 3 0
       one ps e pss = rw e
 
   -- the next line starts further on, within the text

@@ -1,7 +1,5 @@
--- Laws of an instruction row's counted length, in the shapes in which the functions ask for them.
-use Prim.Native.Nat.{ℕ, ◌≤◌}
-use mathlib.Core.Path.{◌≡◌}
-use native.Mathlib.Omega.{arith}
+-- An instruction row's counted length.
+use Prim.Native.Nat.{◌≤◌}
 use lib.Dec.{lit≤}
 use Rattle.asm.specs.Rows.{counted}
 use Rattle.asm.specs.declared.OlaAsmOperand.{OlaAsmOperand}
@@ -17,6 +15,3 @@ counted_le (RegisterWithFactoredRegOffset a b v) = lit≤ tt
 counted_le (SpecialReg b) = lit≤ tt
 counted_le (Label start n) = lit≤ tt
 counted_le (Identifier start n) = lit≤ tt
-
-pub told_counted : (n : ℕ) (x : OlaAsmOperand) → n ≡ counted x → n ≤ 1
-told_counted n x e = omega (arith, counted_le x)

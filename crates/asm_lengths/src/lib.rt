@@ -13,18 +13,10 @@ fn counted(operand: OlaAsmOperand) -> usize
     ensures { result ≡ counted operand }
 {
     match operand {
-        OlaAsmOperand::Empty => 0,
-        OlaAsmOperand::ImmediateOperand { value } => 1,
-        OlaAsmOperand::RegisterOperand { register } => 0,
-        OlaAsmOperand::RegisterWithOffset { register, offset } => 1,
-        OlaAsmOperand::RegisterWithFactoredRegOffset {
-            register,
-            offset_register,
-            factor,
-        } => 1,
-        OlaAsmOperand::SpecialReg { special_reg } => 0,
-        OlaAsmOperand::Label { start, length } => 1,
-        OlaAsmOperand::Identifier { start, length } => 1,
+        OlaAsmOperand::Empty
+        | OlaAsmOperand::RegisterOperand { .. }
+        | OlaAsmOperand::SpecialReg { .. } => 0,
+        _ => 1,
     }
 }
 
@@ -32,55 +24,33 @@ fn counted(operand: OlaAsmOperand) -> usize
 pub fn binary_length(instruction: OlaAsmInstruction) -> usize
     ensures { result ≡ counted_length instruction }
 {
-    let op0 = instruction.op0;
-    let op1 = instruction.op1;
-    1 + counted(op0) + counted(op1)
+    1 + counted(instruction.op0) + counted(instruction.op1)
 }
 
 fn is_memory(places: RowPlaces) -> bool
     ensures { result ≡ is_memory_row places }
 {
-    match places {
-        RowPlaces::DstOp0Op1 => false,
-        RowPlaces::DstOp1 => false,
-        RowPlaces::DstMemory => true,
-        RowPlaces::MemoryDst => true,
-        RowPlaces::Op0Op1 => false,
-        RowPlaces::Op1 => false,
-        RowPlaces::Bare => false,
-    }
+    matches!(places, RowPlaces::DstMemory | RowPlaces::MemoryDst)
 }
 
 fn takes_word(operand: OlaAsmOperand) -> bool
     ensures { result ≡ takes_word operand }
 {
-    match operand {
-        OlaAsmOperand::Empty => false,
-        OlaAsmOperand::ImmediateOperand { value } => true,
-        OlaAsmOperand::RegisterOperand { register } => false,
-        OlaAsmOperand::RegisterWithOffset { register, offset } => false,
-        OlaAsmOperand::RegisterWithFactoredRegOffset {
-            register,
-            offset_register,
-            factor,
-        } => false,
-        OlaAsmOperand::SpecialReg { special_reg } => false,
-        OlaAsmOperand::Label { start, length } => true,
-        OlaAsmOperand::Identifier { start, length } => true,
-    }
+    matches!(
+        operand,
+        OlaAsmOperand::ImmediateOperand { .. }
+            | OlaAsmOperand::Label { .. }
+            | OlaAsmOperand::Identifier { .. }
+    )
 }
 
 // The words of an instruction row: two of mload and mstore and where op1 is a number, a name or a label, else one.
 pub fn word_count(instruction: OlaAsmInstruction) -> usize
     ensures { result ≡ word_count instruction }
 {
-    let opcode = instruction.opcode;
-    if is_memory(vm_tables::row_places(opcode)) {
-        return 2;
+    if is_memory(vm_tables::row_places(instruction.opcode)) || takes_word(instruction.op1) {
+        2
+    } else {
+        1
     }
-    let op1 = instruction.op1;
-    if takes_word(op1) {
-        return 2;
-    }
-    1
 }

@@ -1,123 +1,126 @@
--- The first shape that fits, one law for each shape at which the operand reader ends.
+-- The first shape that fits, by what trying each of them found.
+use Rattle.std.specs.Prelude.{Option, Some, None, Result, Ok, Err}
+use Rattle.std.specs.Result.{result_ok, result_transpose}
 use Prim.Native.Nat.{ℕ}
-use mathlib.Core.Path.{◌≡◌, refl, sym, ◌∙◌}
+use mathlib.Core.Path.{◌≡◌, refl, sym, ap, ◌∙◌}
 use mathlib.Core.List.{List, [], ◌∷◌}
 use mathlib.Core.Bool.{Bool, true, false, cond}
-use native.Mathlib.Omega.{arith}
 use Rattle.asm.specs.Parts.{Part}
 use Rattle.asm.specs.Operands.{Shape, factored, paired, bare, offset, register, number, label, special, name, shapes, first_match, operand_of}
-use Rattle.asm.specs.declared.OperandRead.{OperandRead}
-use Rattle.asm.specs.declared.OperandRead.TheVariants.{Unreadable}
-use Rattle.asm_operands.specs.Tried.{tried}
-use Rattle.asm_operands.specs.declared.Tried.{Tried}
-use Rattle.asm_operands.specs.declared.Tried.TheVariants.{Fits, Other}
+use Rattle.asm.specs.declared.OlaAsmOperand.{OlaAsmOperand}
+use Rattle.asm_shapes.specs.Shapes.{out_of_range}
+use Rattle.asm_shapes.specs.declared.OutOfRange.{OutOfRange}
+use Rattle.asm_operands.specs.Tried.{fitting, tried}
 use Rattle.asm_operands.proofs.Laws.{placed}
 
-module _ (s : Shape) (ss : List Shape) (q : Part) (r : Tried) (e : r ≡ tried s q) where
+-- a shape that was tried: what it told, if the piece has it
+module _ (s : Shape) (ss : List Shape) (q : Part) (r : Result (Option OlaAsmOperand) OutOfRange) (e : r ≡ tried s q) (t : Option (Result OlaAsmOperand OutOfRange)) (k : t ≡ result_transpose r) where
+  told : (o : Option (Result OlaAsmOperand OutOfRange)) → t ≡ o → result_transpose (cond (s.fits q.text) (fitting (s.means q)) (Ok None)) ≡ o
+  unfolding tried
+  told o h = ap result_transpose (sym e) ∙ sym k ∙ h
+
   -- a shape that fits is the first match
-  here : (o : OperandRead) → r ≡ Fits o → o ≡ first_match (s ∷ ss) q
-  unfolding tried first_match
-  here o h = go (s.fits q.text) (sym e ∙ h)
+  here : (f : Result OlaAsmOperand OutOfRange) → t ≡ Some f → result_ok f ≡ first_match (s ∷ ss) q
+  unfolding first_match
+  here f h = go (s.fits q.text) (s.means q) (told _ h)
     where
-      go : (t : Bool) → cond t (Fits (s.means q)) Other ≡ Fits o → o ≡ cond t (s.means q) (first_match ss q)
-      go true f = cc
-      go false f = let z : ◌≡◌ {A = ℕ} 0 1 = cc in absurd (omega arith)
+      go : (u : Bool) (m : Option OlaAsmOperand) → result_transpose (cond u (fitting m) (Ok None)) ≡ Some f → result_ok f ≡ cond u m (first_match ss q)
+      go true (Some b) g = let w : Ok b ≡ f = cc in ap result_ok (sym w)
+      go true None g = let w : Err out_of_range ≡ f = cc in ap result_ok (sym w)
+      go false m g = cc
 
   -- past a shape that does not fit, the match is among the others
-  further : r ≡ Other → first_match ss q ≡ first_match (s ∷ ss) q
-  unfolding tried first_match
-  further h = go (s.fits q.text) (sym e ∙ h)
+  further : t ≡ None → first_match ss q ≡ first_match (s ∷ ss) q
+  unfolding first_match
+  further h = go (s.fits q.text) (s.means q) (told _ h)
     where
-      go : (t : Bool) → cond t (Fits (s.means q)) Other ≡ Other → first_match ss q ≡ cond t (s.means q) (first_match ss q)
-      go true f = let z : ◌≡◌ {A = ℕ} 0 1 = cc in absurd (omega arith)
-      go false f = refl
+      go : (u : Bool) (m : Option OlaAsmOperand) → result_transpose (cond u (fitting m) (Ok None)) ≡ None → first_match ss q ≡ cond u m (first_match ss q)
+      go true (Some b) g = cc
+      go true None g = cc
+      go false m g = refl
 
--- What the shapes tell in their order: `from-S` says that the match is among S and those after it, `at-S` that it is S where S fits.
-module _ (x : List ℕ) (n : ℕ) where
-  module _ (r1 : Tried) (e1 : r1 ≡ tried factored (placed 0 x)) where
-    from_factored : first_match (factored ∷ paired ∷ bare ∷ offset ∷ register ∷ number ∷ label ∷ special ∷ name ∷ []) (placed n x) ≡ operand_of (placed n x)
-    unfolding shapes
-    from_factored = refl
+-- the match is among these shapes
+pub record Left (n : ℕ) (x : List ℕ) (ss : List Shape) : Type 0 where
+  pub among : first_match ss (placed n x) ≡ operand_of (placed n x)
 
-    pub at_factored : (o : OperandRead) → r1 ≡ Fits o → o ≡ operand_of (placed n x)
-    unfolding tried
-    at_factored o h = here factored _ (placed n x) r1 e1 o h ∙ from_factored
+-- ---- the shapes in their order: `from_S` says that the match is among S and those after it, `at_S` that it is S where the piece has S
 
-    module _ (h1 : r1 ≡ Other) (r2 : Tried) (e2 : r2 ≡ tried paired (placed 0 x)) where
-      from_paired : first_match (paired ∷ bare ∷ offset ∷ register ∷ number ∷ label ∷ special ∷ name ∷ []) (placed n x) ≡ operand_of (placed n x)
-      unfolding tried
-      from_paired = further factored _ (placed n x) r1 e1 h1 ∙ from_factored
+module _ (n : ℕ) (x : List ℕ) where
+  pub from_factored : Left n x (factored ∷ paired ∷ bare ∷ offset ∷ register ∷ number ∷ label ∷ special ∷ name ∷ [])
+  unfolding shapes
+  from_factored = record { among = refl }
 
-      pub at_paired : (o : OperandRead) → r2 ≡ Fits o → o ≡ operand_of (placed n x)
-      unfolding tried
-      at_paired o h = here paired _ (placed n x) r2 e2 o h ∙ from_paired
+  pub at_factored : (r : Result (Option OlaAsmOperand) OutOfRange) → r ≡ tried factored (placed 0 x) → (t : Option (Result OlaAsmOperand OutOfRange)) → t ≡ result_transpose r → (f : Result OlaAsmOperand OutOfRange) → t ≡ Some f → (z : Option OlaAsmOperand) → z ≡ result_ok f → Left n x (factored ∷ paired ∷ bare ∷ offset ∷ register ∷ number ∷ label ∷ special ∷ name ∷ []) → z ≡ operand_of (placed n x)
+  unfolding tried
+  at_factored r e t k f h z g l = g ∙ here factored _ (placed n x) r e t k f h ∙ l.among
 
-      module _ (h2 : r2 ≡ Other) (r3 : Tried) (e3 : r3 ≡ tried bare (placed 0 x)) where
-        from_bare : first_match (bare ∷ offset ∷ register ∷ number ∷ label ∷ special ∷ name ∷ []) (placed n x) ≡ operand_of (placed n x)
-        unfolding tried
-        from_bare = further paired _ (placed n x) r2 e2 h2 ∙ from_paired
+  pub from_paired : (r : Result (Option OlaAsmOperand) OutOfRange) → r ≡ tried factored (placed 0 x) → (t : Option (Result OlaAsmOperand OutOfRange)) → t ≡ result_transpose r → t ≡ None → Left n x (factored ∷ paired ∷ bare ∷ offset ∷ register ∷ number ∷ label ∷ special ∷ name ∷ []) → Left n x (paired ∷ bare ∷ offset ∷ register ∷ number ∷ label ∷ special ∷ name ∷ [])
+  unfolding tried
+  from_paired r e t k h l = record { among = further factored _ (placed n x) r e t k h ∙ l.among }
 
-        pub at_bare : (o : OperandRead) → r3 ≡ Fits o → o ≡ operand_of (placed n x)
-        unfolding tried
-        at_bare o h = here bare _ (placed n x) r3 e3 o h ∙ from_bare
+  pub at_paired : (r : Result (Option OlaAsmOperand) OutOfRange) → r ≡ tried paired (placed 0 x) → (t : Option (Result OlaAsmOperand OutOfRange)) → t ≡ result_transpose r → (f : Result OlaAsmOperand OutOfRange) → t ≡ Some f → (z : Option OlaAsmOperand) → z ≡ result_ok f → Left n x (paired ∷ bare ∷ offset ∷ register ∷ number ∷ label ∷ special ∷ name ∷ []) → z ≡ operand_of (placed n x)
+  unfolding tried
+  at_paired r e t k f h z g l = g ∙ here paired _ (placed n x) r e t k f h ∙ l.among
 
-        module _ (h3 : r3 ≡ Other) (r4 : Tried) (e4 : r4 ≡ tried offset (placed 0 x)) where
-          from_offset : first_match (offset ∷ register ∷ number ∷ label ∷ special ∷ name ∷ []) (placed n x) ≡ operand_of (placed n x)
-          unfolding tried
-          from_offset = further bare _ (placed n x) r3 e3 h3 ∙ from_bare
+  pub from_bare : (r : Result (Option OlaAsmOperand) OutOfRange) → r ≡ tried paired (placed 0 x) → (t : Option (Result OlaAsmOperand OutOfRange)) → t ≡ result_transpose r → t ≡ None → Left n x (paired ∷ bare ∷ offset ∷ register ∷ number ∷ label ∷ special ∷ name ∷ []) → Left n x (bare ∷ offset ∷ register ∷ number ∷ label ∷ special ∷ name ∷ [])
+  unfolding tried
+  from_bare r e t k h l = record { among = further paired _ (placed n x) r e t k h ∙ l.among }
 
-          pub at_offset : (o : OperandRead) → r4 ≡ Fits o → o ≡ operand_of (placed n x)
-          unfolding tried
-          at_offset o h = here offset _ (placed n x) r4 e4 o h ∙ from_offset
+  pub at_bare : (r : Result (Option OlaAsmOperand) OutOfRange) → r ≡ tried bare (placed 0 x) → (t : Option (Result OlaAsmOperand OutOfRange)) → t ≡ result_transpose r → (f : Result OlaAsmOperand OutOfRange) → t ≡ Some f → (z : Option OlaAsmOperand) → z ≡ result_ok f → Left n x (bare ∷ offset ∷ register ∷ number ∷ label ∷ special ∷ name ∷ []) → z ≡ operand_of (placed n x)
+  unfolding tried
+  at_bare r e t k f h z g l = g ∙ here bare _ (placed n x) r e t k f h ∙ l.among
 
-          module _ (h4 : r4 ≡ Other) (r5 : Tried) (e5 : r5 ≡ tried register (placed 0 x)) where
-            from_register : first_match (register ∷ number ∷ label ∷ special ∷ name ∷ []) (placed n x) ≡ operand_of (placed n x)
-            unfolding tried
-            from_register = further offset _ (placed n x) r4 e4 h4 ∙ from_offset
+  pub from_offset : (r : Result (Option OlaAsmOperand) OutOfRange) → r ≡ tried bare (placed 0 x) → (t : Option (Result OlaAsmOperand OutOfRange)) → t ≡ result_transpose r → t ≡ None → Left n x (bare ∷ offset ∷ register ∷ number ∷ label ∷ special ∷ name ∷ []) → Left n x (offset ∷ register ∷ number ∷ label ∷ special ∷ name ∷ [])
+  unfolding tried
+  from_offset r e t k h l = record { among = further bare _ (placed n x) r e t k h ∙ l.among }
 
-            pub at_register : (o : OperandRead) → r5 ≡ Fits o → o ≡ operand_of (placed n x)
-            unfolding tried
-            at_register o h = here register _ (placed n x) r5 e5 o h ∙ from_register
+  pub at_offset : (r : Result (Option OlaAsmOperand) OutOfRange) → r ≡ tried offset (placed 0 x) → (t : Option (Result OlaAsmOperand OutOfRange)) → t ≡ result_transpose r → (f : Result OlaAsmOperand OutOfRange) → t ≡ Some f → (z : Option OlaAsmOperand) → z ≡ result_ok f → Left n x (offset ∷ register ∷ number ∷ label ∷ special ∷ name ∷ []) → z ≡ operand_of (placed n x)
+  unfolding tried
+  at_offset r e t k f h z g l = g ∙ here offset _ (placed n x) r e t k f h ∙ l.among
 
-            module _ (h5 : r5 ≡ Other) (r6 : Tried) (e6 : r6 ≡ tried number (placed 0 x)) where
-              from_number : first_match (number ∷ label ∷ special ∷ name ∷ []) (placed n x) ≡ operand_of (placed n x)
-              unfolding tried
-              from_number = further register _ (placed n x) r5 e5 h5 ∙ from_register
+  pub from_register : (r : Result (Option OlaAsmOperand) OutOfRange) → r ≡ tried offset (placed 0 x) → (t : Option (Result OlaAsmOperand OutOfRange)) → t ≡ result_transpose r → t ≡ None → Left n x (offset ∷ register ∷ number ∷ label ∷ special ∷ name ∷ []) → Left n x (register ∷ number ∷ label ∷ special ∷ name ∷ [])
+  unfolding tried
+  from_register r e t k h l = record { among = further offset _ (placed n x) r e t k h ∙ l.among }
 
-              pub at_number : (o : OperandRead) → r6 ≡ Fits o → o ≡ operand_of (placed n x)
-              unfolding tried
-              at_number o h = here number _ (placed n x) r6 e6 o h ∙ from_number
+  pub at_register : (r : Result (Option OlaAsmOperand) OutOfRange) → r ≡ tried register (placed 0 x) → (t : Option (Result OlaAsmOperand OutOfRange)) → t ≡ result_transpose r → (f : Result OlaAsmOperand OutOfRange) → t ≡ Some f → (z : Option OlaAsmOperand) → z ≡ result_ok f → Left n x (register ∷ number ∷ label ∷ special ∷ name ∷ []) → z ≡ operand_of (placed n x)
+  unfolding tried
+  at_register r e t k f h z g l = g ∙ here register _ (placed n x) r e t k f h ∙ l.among
 
-              module _ (h6 : r6 ≡ Other) (r7 : Tried) (e7 : r7 ≡ tried label (placed n x)) where
-                from_label : first_match (label ∷ special ∷ name ∷ []) (placed n x) ≡ operand_of (placed n x)
-                unfolding tried
-                from_label = further number _ (placed n x) r6 e6 h6 ∙ from_number
+  pub from_number : (r : Result (Option OlaAsmOperand) OutOfRange) → r ≡ tried register (placed 0 x) → (t : Option (Result OlaAsmOperand OutOfRange)) → t ≡ result_transpose r → t ≡ None → Left n x (register ∷ number ∷ label ∷ special ∷ name ∷ []) → Left n x (number ∷ label ∷ special ∷ name ∷ [])
+  unfolding tried
+  from_number r e t k h l = record { among = further register _ (placed n x) r e t k h ∙ l.among }
 
-                pub at_label : (o : OperandRead) → r7 ≡ Fits o → o ≡ operand_of (placed n x)
-                unfolding tried
-                at_label o h = here label _ (placed n x) r7 e7 o h ∙ from_label
+  pub at_number : (r : Result (Option OlaAsmOperand) OutOfRange) → r ≡ tried number (placed 0 x) → (t : Option (Result OlaAsmOperand OutOfRange)) → t ≡ result_transpose r → (f : Result OlaAsmOperand OutOfRange) → t ≡ Some f → (z : Option OlaAsmOperand) → z ≡ result_ok f → Left n x (number ∷ label ∷ special ∷ name ∷ []) → z ≡ operand_of (placed n x)
+  unfolding tried
+  at_number r e t k f h z g l = g ∙ here number _ (placed n x) r e t k f h ∙ l.among
 
-                module _ (h7 : r7 ≡ Other) (r8 : Tried) (e8 : r8 ≡ tried special (placed 0 x)) where
-                  from_special : first_match (special ∷ name ∷ []) (placed n x) ≡ operand_of (placed n x)
-                  unfolding tried
-                  from_special = further label _ (placed n x) r7 e7 h7 ∙ from_label
+  pub from_label : (r : Result (Option OlaAsmOperand) OutOfRange) → r ≡ tried number (placed 0 x) → (t : Option (Result OlaAsmOperand OutOfRange)) → t ≡ result_transpose r → t ≡ None → Left n x (number ∷ label ∷ special ∷ name ∷ []) → Left n x (label ∷ special ∷ name ∷ [])
+  unfolding tried
+  from_label r e t k h l = record { among = further number _ (placed n x) r e t k h ∙ l.among }
 
-                  pub at_special : (o : OperandRead) → r8 ≡ Fits o → o ≡ operand_of (placed n x)
-                  unfolding tried
-                  at_special o h = here special _ (placed n x) r8 e8 o h ∙ from_special
+  pub at_label : (r : Result (Option OlaAsmOperand) OutOfRange) → r ≡ tried label (placed n x) → (t : Option (Result OlaAsmOperand OutOfRange)) → t ≡ result_transpose r → (f : Result OlaAsmOperand OutOfRange) → t ≡ Some f → (z : Option OlaAsmOperand) → z ≡ result_ok f → Left n x (label ∷ special ∷ name ∷ []) → z ≡ operand_of (placed n x)
+  unfolding tried
+  at_label r e t k f h z g l = g ∙ here label _ (placed n x) r e t k f h ∙ l.among
 
-                  module _ (h8 : r8 ≡ Other) (r9 : Tried) (e9 : r9 ≡ tried name (placed n x)) where
-                    from_name : first_match (name ∷ []) (placed n x) ≡ operand_of (placed n x)
-                    unfolding tried
-                    from_name = further special _ (placed n x) r8 e8 h8 ∙ from_special
+  pub from_special : (r : Result (Option OlaAsmOperand) OutOfRange) → r ≡ tried label (placed n x) → (t : Option (Result OlaAsmOperand OutOfRange)) → t ≡ result_transpose r → t ≡ None → Left n x (label ∷ special ∷ name ∷ []) → Left n x (special ∷ name ∷ [])
+  unfolding tried
+  from_special r e t k h l = record { among = further label _ (placed n x) r e t k h ∙ l.among }
 
-                    pub at_name : (o : OperandRead) → r9 ≡ Fits o → o ≡ operand_of (placed n x)
-                    unfolding tried
-                    at_name o h = here name _ (placed n x) r9 e9 o h ∙ from_name
+  pub at_special : (r : Result (Option OlaAsmOperand) OutOfRange) → r ≡ tried special (placed 0 x) → (t : Option (Result OlaAsmOperand OutOfRange)) → t ≡ result_transpose r → (f : Result OlaAsmOperand OutOfRange) → t ≡ Some f → (z : Option OlaAsmOperand) → z ≡ result_ok f → Left n x (special ∷ name ∷ []) → z ≡ operand_of (placed n x)
+  unfolding tried
+  at_special r e t k f h z g l = g ∙ here special _ (placed n x) r e t k f h ∙ l.among
 
-                    -- where none fits the piece is no operand
-                    pub at_none : r9 ≡ Other → Unreadable ≡ operand_of (placed n x)
-                    unfolding tried first_match
-                    at_none h = further name [] (placed n x) r9 e9 h ∙ from_name
+  pub from_name : (r : Result (Option OlaAsmOperand) OutOfRange) → r ≡ tried special (placed 0 x) → (t : Option (Result OlaAsmOperand OutOfRange)) → t ≡ result_transpose r → t ≡ None → Left n x (special ∷ name ∷ []) → Left n x (name ∷ [])
+  unfolding tried
+  from_name r e t k h l = record { among = further special _ (placed n x) r e t k h ∙ l.among }
 
-pub ruleset first_laws = (at_factored, at_paired, at_bare, at_offset, at_register, at_number, at_label, at_special, at_name, at_none)
+  pub at_name : (r : Result (Option OlaAsmOperand) OutOfRange) → r ≡ tried name (placed n x) → (t : Option (Result OlaAsmOperand OutOfRange)) → t ≡ result_transpose r → (f : Result OlaAsmOperand OutOfRange) → t ≡ Some f → (z : Option OlaAsmOperand) → z ≡ result_ok f → Left n x (name ∷ []) → z ≡ operand_of (placed n x)
+  unfolding tried
+  at_name r e t k f h z g l = g ∙ here name _ (placed n x) r e t k f h ∙ l.among
+
+  -- where none fits the piece is no operand
+  pub at_none : (r : Result (Option OlaAsmOperand) OutOfRange) → r ≡ tried name (placed n x) → (t : Option (Result OlaAsmOperand OutOfRange)) → t ≡ result_transpose r → t ≡ None → Left n x (name ∷ []) → None ≡ operand_of (placed n x)
+  unfolding tried first_match
+  at_none r e t k h l = further name [] (placed n x) r e t k h ∙ l.among
+
+pub ruleset first_laws = (from_factored, from_paired, from_bare, from_offset, from_register, from_number, from_label, from_special, from_name, at_factored, at_paired, at_bare, at_offset, at_register, at_number, at_label, at_special, at_name, at_none)

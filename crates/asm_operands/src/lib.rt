@@ -7,43 +7,29 @@ ghost use Rattle.std.specs.Prelude.{◌≡◌};
 ghost use Rattle.asm.specs.Operands.{factored, paired, bare, offset, register, number, label, special, name, operand_of};
 ghost use Rattle.asm_operands.specs.Tried.{tried, anchor_of, second_of};
 
-use asm::{OlaAsmOperand, OperandRead};
-use asm_shapes::SourceNumber;
-use vm_hardware::{RegisterFound, SpecialFound};
+use asm::OlaAsmOperand;
+use asm_shapes::OutOfRange;
+use vm_hardware::OlaRegister;
 use vm_operands::ImmediateValue;
 
-// What trying a shape finds: the piece has it and is this (unreadable where its number is out of range, and no further shape is tried), or it does not have it.
-#[derive(Clone, Copy)]
-pub enum Tried {
-    Fits(OperandRead),
-    Other,
-}
-
-// The letters of a label.
-const LBL: [u8; 3] = *b"LBL";
-
 // The register after the opening bracket of a piece that ends in the closing one.
-fn anchor(piece: &[u8]) -> RegisterFound
+#[tactic(auto, using(crate::proofs::Laws::anchor_laws))]
+fn anchor(piece: &[u8]) -> Option<OlaRegister>
     ensures { result ≡ anchor_of piece.now }
 {
-    if piece.len() == 0 {
-        return RegisterFound::Nothing;
-    }
-    if piece[0] != b'[' {
-        return RegisterFound::Nothing;
-    }
-    if piece[piece.len() - 1] != b']' {
-        return RegisterFound::Nothing;
-    }
+    let [b'[', .., b']'] = piece else {
+        return None;
+    };
     asm_shapes::register_at(piece, 1)
 }
 
 // The register after the comma at place 3.
-fn second(piece: &[u8]) -> RegisterFound
+#[tactic(auto, using(crate::proofs::Laws::second_laws))]
+fn second(piece: &[u8]) -> Option<OlaRegister>
     ensures { result ≡ second_of piece.now }
 {
     if !asm_shapes::byte_is(piece, 3, b',') {
-        return RegisterFound::Nothing;
+        return None;
     }
     asm_shapes::register_at(piece, 4)
 }
@@ -51,70 +37,65 @@ fn second(piece: &[u8]) -> RegisterFound
 // `[rA,rB,n]`
 // r"^\[(?P<reg>r[0-9]),(?P<offset_reg>r[0-9]),(?P<factor>[\+-]?[[:digit:]]+)\]$"
 // 02, Point 4: factor may also be `0x` and one to sixteen hexadecimal digits.
-fn try_reg_with_reg_factored_offset(piece: &[u8]) -> Tried
+#[tactic(auto, using(crate::proofs::Laws::factored_laws))]
+fn try_reg_with_reg_factored_offset(piece: &[u8]) -> Result<Option<OlaAsmOperand>, OutOfRange>
     ensures { result ≡ tried factored (record { start = 0; text = piece.now }) }
 {
-    let first = anchor(piece);
-    let RegisterFound::Is(a) = first else {
-        return Tried::Other;
+    let Some(register) = anchor(piece) else {
+        return Ok(None);
     };
-    let other = second(piece);
-    let RegisterFound::Is(b) = other else {
-        return Tried::Other;
+    let Some(offset_register) = second(piece) else {
+        return Ok(None);
     };
     if !asm_shapes::byte_is(piece, 6, b',') {
-        return Tried::Other;
+        return Ok(None);
     }
-    match asm_shapes::source_number(&piece[7..piece.len() - 1]) {
-        SourceNumber::Is(factor) => Tried::Fits(OperandRead::Is(
-            OlaAsmOperand::RegisterWithFactoredRegOffset {
-                register: a,
-                offset_register: b,
-                factor,
-            },
-        )),
-        SourceNumber::OutOfRange => Tried::Fits(OperandRead::Unreadable),
-        SourceNumber::Other => Tried::Other,
-    }
+    let Some(factor) = asm_shapes::source_number(&piece[7..piece.len() - 1])? else {
+        return Ok(None);
+    };
+    Ok(Some(OlaAsmOperand::RegisterWithFactoredRegOffset {
+        register,
+        offset_register,
+        factor,
+    }))
 }
 
 // `[rA,rB]` (factor 1)
 // r"^\[(?P<reg>r[0-9]),(?P<offset_reg>r[0-9])\]$"
-fn try_reg_with_reg_offset(piece: &[u8]) -> Tried
+#[tactic(auto, using(crate::proofs::Laws::paired_laws))]
+fn try_reg_with_reg_offset(piece: &[u8]) -> Result<Option<OlaAsmOperand>, OutOfRange>
     ensures { result ≡ tried paired (record { start = 0; text = piece.now }) }
 {
-    let first = anchor(piece);
-    let RegisterFound::Is(a) = first else {
-        return Tried::Other;
+    let Some(register) = anchor(piece) else {
+        return Ok(None);
     };
-    let other = second(piece);
-    let RegisterFound::Is(b) = other else {
-        return Tried::Other;
+    let Some(offset_register) = second(piece) else {
+        return Ok(None);
     };
     if piece.len() != 7 {
-        return Tried::Other;
+        return Ok(None);
     }
-    Tried::Fits(OperandRead::Is(OlaAsmOperand::RegisterWithFactoredRegOffset {
-        register: a,
-        offset_register: b,
+    Ok(Some(OlaAsmOperand::RegisterWithFactoredRegOffset {
+        register,
+        offset_register,
         factor: ImmediateValue { number: 1 },
     }))
 }
 
 // `[rA]` (offset 0)
 // r"^\[(?P<reg>r[0-9])\]$"
-fn try_reg_with_default_offset(piece: &[u8]) -> Tried
+#[tactic(auto, using(crate::proofs::Laws::bare_laws))]
+fn try_reg_with_default_offset(piece: &[u8]) -> Result<Option<OlaAsmOperand>, OutOfRange>
     ensures { result ≡ tried bare (record { start = 0; text = piece.now }) }
 {
-    let first = anchor(piece);
-    let RegisterFound::Is(a) = first else {
-        return Tried::Other;
+    let Some(register) = anchor(piece) else {
+        return Ok(None);
     };
     if piece.len() != 4 {
-        return Tried::Other;
+        return Ok(None);
     }
-    Tried::Fits(OperandRead::Is(OlaAsmOperand::RegisterWithOffset {
-        register: a,
+    Ok(Some(OlaAsmOperand::RegisterWithOffset {
+        register,
         offset: ImmediateValue { number: 0 },
     }))
 }
@@ -122,75 +103,61 @@ fn try_reg_with_default_offset(piece: &[u8]) -> Tried
 // `[rA,n]`
 // r"^\[(?P<reg>r[0-9]),(?P<offset>[\+-]?[[:digit:]]+)\]$"
 // 02, Point 4: offset may also be `0x` and one to sixteen hexadecimal digits.
-fn try_reg_offset(piece: &[u8]) -> Tried
+#[tactic(auto, using(crate::proofs::Laws::offset_laws))]
+fn try_reg_offset(piece: &[u8]) -> Result<Option<OlaAsmOperand>, OutOfRange>
     ensures { result ≡ tried offset (record { start = 0; text = piece.now }) }
 {
-    let first = anchor(piece);
-    let RegisterFound::Is(a) = first else {
-        return Tried::Other;
+    let Some(register) = anchor(piece) else {
+        return Ok(None);
     };
     if !asm_shapes::byte_is(piece, 3, b',') {
-        return Tried::Other;
+        return Ok(None);
     }
-    match asm_shapes::source_number(&piece[4..piece.len() - 1]) {
-        SourceNumber::Is(value) => {
-            Tried::Fits(OperandRead::Is(OlaAsmOperand::RegisterWithOffset {
-                register: a,
-                offset: value,
-            }))
-        }
-        SourceNumber::OutOfRange => Tried::Fits(OperandRead::Unreadable),
-        SourceNumber::Other => Tried::Other,
-    }
+    let Some(offset) = asm_shapes::source_number(&piece[4..piece.len() - 1])? else {
+        return Ok(None);
+    };
+    Ok(Some(OlaAsmOperand::RegisterWithOffset { register, offset }))
 }
 
 // `rA`
 // r"^(?P<reg>r[0-9])$"
-fn try_reg(piece: &[u8]) -> Tried
+#[tactic(auto, using(crate::proofs::OtherLaws::register_laws))]
+fn try_reg(piece: &[u8]) -> Result<Option<OlaAsmOperand>, OutOfRange>
     ensures { result ≡ tried register (record { start = 0; text = piece.now }) }
 {
-    match vm_registers::register_from_str(piece) {
-        RegisterFound::Is(a) => {
-            Tried::Fits(OperandRead::Is(OlaAsmOperand::RegisterOperand { register: a }))
-        }
-        RegisterFound::Nothing => Tried::Other,
-    }
+    let Some(register) = vm_registers::register_from_str(piece) else {
+        return Ok(None);
+    };
+    Ok(Some(OlaAsmOperand::RegisterOperand { register }))
 }
 
 // n
 // r"^(?P<imm>[\+-]?[[:digit:]]+)$"
 // 02, Point 4: imm may also be `0x` and one to sixteen hexadecimal digits.
-fn try_immediate_value(piece: &[u8]) -> Tried
+#[tactic(auto, using(crate::proofs::OtherLaws::number_laws))]
+fn try_immediate_value(piece: &[u8]) -> Result<Option<OlaAsmOperand>, OutOfRange>
     ensures { result ≡ tried number (record { start = 0; text = piece.now }) }
 {
-    match asm_shapes::source_number(piece) {
-        SourceNumber::Is(value) => {
-            Tried::Fits(OperandRead::Is(OlaAsmOperand::ImmediateOperand { value }))
-        }
-        SourceNumber::OutOfRange => Tried::Fits(OperandRead::Unreadable),
-        SourceNumber::Other => Tried::Other,
-    }
+    let Some(value) = asm_shapes::source_number(piece)? else {
+        return Ok(None);
+    };
+    Ok(Some(OlaAsmOperand::ImmediateOperand { value }))
 }
 
 // A label: a dot, `LBL`, digits, `_`, digits.
 // r"^(?P<label>.LBL[[:digit:]]+_[[:digit:]]+)$"
 // 02, Point 2: the first character is a dot, where the pattern takes any.
-fn try_label(piece: &[u8], start: usize) -> Tried
+#[tactic(auto, using(crate::proofs::OtherLaws::label_laws))]
+fn try_label(piece: &[u8], start: usize) -> Result<Option<OlaAsmOperand>, OutOfRange>
     ensures { result ≡ tried label (record { start = start; text = piece.now }) }
 {
-    if piece.len() < 4 {
-        return Tried::Other;
+    let Some(pair) = piece.strip_prefix(b".LBL") else {
+        return Ok(None);
+    };
+    if !asm_shapes::is_pair(pair) {
+        return Ok(None);
     }
-    if piece[0] != b'.' {
-        return Tried::Other;
-    }
-    if !text::same_bytes(&piece[1..4], &LBL) {
-        return Tried::Other;
-    }
-    if !asm_shapes::is_pair(&piece[4..]) {
-        return Tried::Other;
-    }
-    Tried::Fits(OperandRead::Is(OlaAsmOperand::Label {
+    Ok(Some(OlaAsmOperand::Label {
         start,
         length: piece.len(),
     }))
@@ -198,61 +165,61 @@ fn try_label(piece: &[u8], start: usize) -> Tried
 
 // `pc` or `psp`
 // OlaSpecialRegister::from_str(s)
-fn try_special_reg(piece: &[u8]) -> Tried
+#[tactic(auto, using(crate::proofs::OtherLaws::special_laws))]
+fn try_special_reg(piece: &[u8]) -> Result<Option<OlaAsmOperand>, OutOfRange>
     ensures { result ≡ tried special (record { start = 0; text = piece.now }) }
 {
-    match vm_registers::special_from_str(piece) {
-        SpecialFound::Is(s) => {
-            Tried::Fits(OperandRead::Is(OlaAsmOperand::SpecialReg { special_reg: s }))
-        }
-        SpecialFound::Nothing => Tried::Other,
-    }
+    let Some(special_reg) = vm_registers::special_from_str(piece) else {
+        return Ok(None);
+    };
+    Ok(Some(OlaAsmOperand::SpecialReg { special_reg }))
 }
 
 // A name.
 // r"^(?P<identifier>_*[[:alpha:]]+[[:word:]]*)$"
-fn try_identifier(piece: &[u8], start: usize) -> Tried
+#[tactic(auto, using(crate::proofs::OtherLaws::name_laws))]
+fn try_identifier(piece: &[u8], start: usize) -> Result<Option<OlaAsmOperand>, OutOfRange>
     ensures { result ≡ tried name (record { start = start; text = piece.now }) }
 {
     if !asm_shapes::is_name(piece) {
-        return Tried::Other;
+        return Ok(None);
     }
-    Tried::Fits(OperandRead::Is(OlaAsmOperand::Identifier {
+    Ok(Some(OlaAsmOperand::Identifier {
         start,
         length: piece.len(),
     }))
 }
 
 // What a piece that starts at a place of the source is as an operand: the first shape that it has.
-pub fn from_str(piece: &[u8], start: usize) -> OperandRead
+pub fn from_str(piece: &[u8], start: usize) -> Option<OlaAsmOperand>
     ensures { result ≡ operand_of (record { start = start; text = piece.now }) }
 {
-    if let Tried::Fits(o) = try_reg_with_reg_factored_offset(piece) {
-        return o;
+    if let Some(found) = try_reg_with_reg_factored_offset(piece).transpose() {
+        return found.ok();
     }
-    if let Tried::Fits(o) = try_reg_with_reg_offset(piece) {
-        return o;
+    if let Some(found) = try_reg_with_reg_offset(piece).transpose() {
+        return found.ok();
     }
-    if let Tried::Fits(o) = try_reg_with_default_offset(piece) {
-        return o;
+    if let Some(found) = try_reg_with_default_offset(piece).transpose() {
+        return found.ok();
     }
-    if let Tried::Fits(o) = try_reg_offset(piece) {
-        return o;
+    if let Some(found) = try_reg_offset(piece).transpose() {
+        return found.ok();
     }
-    if let Tried::Fits(o) = try_reg(piece) {
-        return o;
+    if let Some(found) = try_reg(piece).transpose() {
+        return found.ok();
     }
-    if let Tried::Fits(o) = try_immediate_value(piece) {
-        return o;
+    if let Some(found) = try_immediate_value(piece).transpose() {
+        return found.ok();
     }
-    if let Tried::Fits(o) = try_label(piece, start) {
-        return o;
+    if let Some(found) = try_label(piece, start).transpose() {
+        return found.ok();
     }
-    if let Tried::Fits(o) = try_special_reg(piece) {
-        return o;
+    if let Some(found) = try_special_reg(piece).transpose() {
+        return found.ok();
     }
-    if let Tried::Fits(o) = try_identifier(piece, start) {
-        return o;
+    if let Some(found) = try_identifier(piece, start).transpose() {
+        return found.ok();
     }
-    OperandRead::Unreadable
+    None
 }

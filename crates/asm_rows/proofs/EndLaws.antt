@@ -10,8 +10,22 @@ use lib.ListN.{length, get_or, take, drop, drop_of_length-le}
 use lib.Seq.{drop-drop}
 use Rattle.text.specs.Scan.{scan}
 use Rattle.text.specs.Lines.{not_feed}
-use Rattle.text.proofs.Laws.{drop_next}
+use Rattle.std.specs.List.{slice_range}
+use Rattle.std.specs.Option.{MatchOption, unwrap_or}
+use denote.Ref.{Bor}
+use mathlib.Core.Logic.{◌⊎◌, inl, inr}
+use Rattle.std.specs.Prelude.{Option, Some, None}
+use Rattle.text.proofs.Laws.{drop_next, part_from}
 use Rattle.asm_rows.specs.Found.{is_not, both, stop_at, line_ends}
+
+-- what `get` gives of a text from place i on, or nothing where that is past its end
+pub got_from : (l : List ℕ) (i : ℕ) (r : Option (Bor (List ℕ))) (d : Bor (List ℕ)) → MatchOption r ((length l < i) ⊎ (length l < length l)) (λ x. (i ≤ length l) × (length l ≤ length l) × (x.now ≡ slice_range l i (length l)) × (length x.now + i ≡ length l)) → d.now ≡ [] → (unwrap_or r d).now ≡ drop i l
+got_from l i (Some x) d h e = h.2 ∙ part_from i l
+got_from l i None d h e = e ∙ sym (drop_of_length-le l (go h))
+  where
+    go : (length l < i) ⊎ (length l < length l) → length l ≤ i
+    go (inl k) = omega arith
+    go (inr k) = omega arith
 
 -- ---- one scan by two tests
 

@@ -1,11 +1,13 @@
 -- Laws of the row reader: the row that pieces make, and the line of a source that starts at a place.
+use Rattle.std.specs.Prelude.{Option, None}
 use Rattle.text.specs.declared.ByteClass.TheVariants.{IsNot}
 use Rattle.text.specs.Classes.{holds}
-use mathlib.Core.Bool.{Bool}
-use Prim.Native.Nat.{ℕ, ◌+◌, ◌^◌, ◌<◌, ◌≤◌, ◌-◌}
+use mathlib.Core.Bool.{Bool, true, false}
+use borrow.Author.Tests.{eqb-true, eqb-false}
+use lib.Dec.{eqb}
+use Prim.Native.Nat.{ℕ, ◌+◌, ◌^◌, ◌<◌, ◌≤◌, ◌-◌, min}
 use mathlib.Core.Path.{◌≡◌, refl, sym, ap, ◌∙◌}
 use mathlib.Core.List.{List, [], ◌∷◌}
-use mathlib.Core.Option.{Option, none, some}
 use native.Mathlib.Omega.{arith}
 use borrow.Author.Rules.{rules}
 use mir.Val.{Fits}
@@ -18,16 +20,12 @@ use Rattle.text.specs.declared.Piece.{Piece}
 use Rattle.text.proofs.Laws.{scan_le, part_counts, part_from}
 use Rattle.text.proofs.PartLaws.{line_ended, line_last}
 use Rattle.vm_opcodes.specs.declared.OlaOpcode.{OlaOpcode}
-use Rattle.vm_opcodes.specs.declared.OpcodeFound.{OpcodeFound}
-use Rattle.vm_opcodes.specs.declared.OpcodeFound.TheVariants.{Is as IsOpcode, Nothing as NoOpcode}
 use Rattle.vm_mnemonics.specs.Mnemonics.{operation_of}
 use Rattle.asm.specs.Parts.{Part, placed, filled_parts, pieces_from, line_pieces, line_at, next_line, without_comment}
 use Rattle.asm.specs.Rows.{arranged_if, label_row, or_else_row, row_of, of_row, line_of, row_at}
 use Rattle.asm.specs.declared.AsmRow.{AsmRow}
-use Rattle.asm.specs.declared.RowRead.{RowRead}
-use Rattle.asm.specs.declared.RowRead.TheVariants.{Is as IsRow, Unreadable}
 use Rattle.asm.specs.declared.LineRead.{LineRead}
-use Rattle.asm.specs.declared.LineRead.TheVariants.{Blank, Row, Unreadable as NoRow}
+use Rattle.asm.specs.declared.LineRead.TheVariants.{Blank}
 use Rattle.asm_rows.specs.Found.{piece_at, row_given, is_not, line_ends}
 use Rattle.asm_rows.specs.declared.LineEnds.{LineEnds}
 use Rattle.asm_laws.proofs.PieceLaws.{part_taken}
@@ -35,46 +33,18 @@ use Rattle.asm_rows.proofs.OperandLaws.{cut, piece_ends, end_fits, no_piece, fir
 
 -- ---- rows
 
--- a first piece that is a label, or an operation's word alone
-module _ (q : Part) (r : RowRead) (e : r ≡ or_else_row (label_row q) Unreadable) where
-  told_label : (row : AsmRow) (x : RowRead) → r ≡ IsRow row → Row row ≡ of_row (or_else_row (label_row q) x)
-  told_label row x f = go (label_row q) (sym e ∙ f)
-    where
-      go : (y : Option AsmRow) → or_else_row y Unreadable ≡ IsRow row → Row row ≡ of_row (or_else_row y x)
-      go (some y) h = ap of_row (sym h)
-      go none h = cc
+-- a word that is no operation's: a label, with no piece behind it
+module _ (q : Part) (l : List ℕ) (i : ℕ) (p : Piece) (e : p ≡ piece_at l i) where
+  pub label_alone : p.length ≡ 0 → (r : Option AsmRow) → r ≡ or_else_row (label_row q) None → r ≡ row_given None q (pieces_from i (drop i l))
+  unfolding arranged_if
+  label_alone h r f = rw (no_piece l i p e h) f
 
-  told_none : (x : RowRead) → r ≡ Unreadable → or_else_row (label_row q) x ≡ x
-  told_none x f = go (label_row q) (sym e ∙ f)
-    where
-      go : (y : Option AsmRow) → or_else_row y Unreadable ≡ Unreadable → or_else_row y x ≡ x
-      go (some y) h = cc
-      go none h = refl
+  -- and with one
+  pub label_more : (p.length ≡ 0 → ⊥) → None ≡ row_given None q (pieces_from i (drop i l))
+  unfolding arranged_if
+  label_more h = rw (first_piece_lem l i p e h)
 
-  module _ (o : OlaOpcode) where
-    pub single_label : (row : AsmRow) → r ≡ IsRow row → Row row ≡ of_row (row_given (IsOpcode o) q [])
-    single_label row f = told_label row _ f
-
-    pub single_bare : (x : LineRead) → r ≡ Unreadable → x ≡ of_row (arranged_if (IsOpcode o) (some [])) → x ≡ of_row (row_given (IsOpcode o) q [])
-    single_bare x f g = g ∙ ap of_row (sym (told_none _ f))
-
-  -- a word that is no operation's, with no piece behind it
-  module _ (l : List ℕ) (i : ℕ) (p : Piece) (d : p ≡ piece_at l i) (h : p.length ≡ 0) where
-    pub label_is : (row : AsmRow) → r ≡ IsRow row → Row row ≡ of_row (row_given NoOpcode q (pieces_from i (drop i l)))
-    label_is row f = rw (no_piece l i p d h) (told_label row _ f)
-
-    pub label_none : r ≡ Unreadable → NoRow ≡ of_row (row_given NoOpcode q (pieces_from i (drop i l)))
-    unfolding arranged_if
-    label_none f = rw (no_piece l i p d h) (ap of_row (sym (told_none Unreadable f)))
-
-pub ruleset single_laws = (single_label, single_bare, rules)
-
--- and with one
-pub label_more : (q : Part) (l : List ℕ) (i : ℕ) (p : Piece) → p ≡ piece_at l i → (p.length ≡ 0 → ⊥) → NoRow ≡ of_row (row_given NoOpcode q (pieces_from i (drop i l)))
-unfolding arranged_if
-label_more q l i p e h = rw (first_piece_lem l i p e h)
-
-pub ruleset label_laws = (label_is, label_none, label_more, rules)
+pub ruleset label_laws = (label_alone, label_more, rules)
 
 -- the first piece and its operation make the row of all pieces
 row_made : (q : Part) (ps : List Part) → row_given (operation_of q.text) q ps ≡ row_of (q ∷ ps)
@@ -87,11 +57,11 @@ module _ (l : List ℕ) (i : ℕ) (p : Piece) (e : p ≡ piece_at l i) where
   line_blank h = rw (no_piece l i p e h)
 
   -- as the operation of the first piece was told
-  pub line_told : (f g : OpcodeFound) (x : LineRead) → (p.length ≡ 0 → ⊥) → f ≡ operation_of (cut l p.start (p.start + p.length)).text → f ≡ g → x ≡ of_row (row_given g (cut l p.start (p.start + p.length)) (pieces_from (p.start + p.length) (drop (p.start + p.length) l))) → x ≡ line_of (pieces_from i (drop i l))
-  line_told f g x h k m n =
+  pub line_told : (f g : Option OlaOpcode) (x : LineRead) → (p.length ≡ 0 → ⊥) → f ≡ operation_of (cut l p.start (p.start + p.length)).text → f ≡ g → (r : Option AsmRow) → x ≡ of_row r → r ≡ row_given g (cut l p.start (p.start + p.length)) (pieces_from (p.start + p.length) (drop (p.start + p.length) l)) → x ≡ line_of (pieces_from i (drop i l))
+  line_told f g x h k m r n o =
       let q : Part = cut l p.start (p.start + p.length) in
       let ps : List Part = pieces_from (p.start + p.length) (drop (p.start + p.length) l) in
-      n ∙ ap (λ (y : OpcodeFound). of_row (row_given y q ps)) (sym m ∙ k) ∙ ap of_row (row_made q ps) ∙ sym (ap line_of (first_piece_lem l i p e h))
+      n ∙ ap of_row o ∙ ap (λ (y : Option OlaOpcode). of_row (row_given y q ps)) (sym m ∙ k) ∙ ap of_row (row_made q ps) ∙ sym (ap line_of (first_piece_lem l i p e h))
 
 pub ruleset line_laws = (piece_ends, end_fits, line_blank, line_told, rules)
 
@@ -125,8 +95,8 @@ module _ (s : List ℕ) (i : ℕ) (w : LineEnds) (e : w ≡ line_ends s i) where
   code_within : i < length s → w.end ≤ length s
   code_within h = let k = feed_within h in let f = feed_at in let c = end_at in let n = code_le s i in omega arith
 
-  pub next_fits : i < length s → length s < 2 ^ 64 → (w.feed ≡ length s → ⊥) → Fits w64 (w.feed + 1)
-  next_fits h f g = let k = feed_within h in omega arith
+  pub next_fits : i < length s → length s < 2 ^ 63 → Fits w64 (w.feed + 1)
+  next_fits h f = let k = feed_within h in omega arith
 
   -- what stands up to the end of the line's code has as many bytes
   pub code_counts : i < length s → w.end ≡ length (take w.end s)
@@ -143,7 +113,7 @@ module _ (s : List ℕ) (i : ℕ) (w : LineEnds) (e : w ≡ line_ends s i) where
       ∙ sym (take-take n (scan not_feed (drop i s)) (drop i s) (code_le s i)))
 
   module _ (r : LineRead) (g : r ≡ line_of (pieces_from i (drop i (take w.end s)))) where
-    pub row_last : i < length s → w.feed ≡ length s → record { read = r; next = w.feed } ≡ row_at s i
+    row_last : i < length s → w.feed ≡ length s → record { read = r; next = w.feed } ≡ row_at s i
     row_last h k =
         let d = length-drop i s in
         let f = feed_at in
@@ -152,7 +122,7 @@ module _ (s : List ℕ) (i : ℕ) (w : LineEnds) (e : w ≡ line_ends s i) where
         let o : w.feed ≡ next_line s i = omega arith in
         cc
 
-    pub row_ended : i < length s → (w.feed ≡ length s → ⊥) → record { read = r; next = w.feed + 1 } ≡ row_at s i
+    row_ended : i < length s → (w.feed ≡ length s → ⊥) → record { read = r; next = w.feed + 1 } ≡ row_at s i
     row_ended h k =
         let d = length-drop i s in
         let f = feed_at in
@@ -161,6 +131,18 @@ module _ (s : List ℕ) (i : ℕ) (w : LineEnds) (e : w ≡ line_ends s i) where
         let m : r ≡ line_of (line_pieces (line_at s i)) = g ∙ ap line_of code_pieces in
         let o : w.feed + 1 ≡ next_line s i = omega arith in
         cc
+
+    -- the next line starts after the line feed, or at the source's end
+    pub row_next : i < length s → (n : ℕ) → n ≡ min (length s) (w.feed + 1) → record { read = r; next = n } ≡ row_at s i
+    row_next h n k = go (eqb w.feed (length s)) refl
+      where
+        go : (t : Bool) → eqb w.feed (length s) ≡ t → record { read = r; next = n } ≡ row_at s i
+        go true e = let f : w.feed ≡ length s = eqb-true _ _ e in let o : n ≡ w.feed = omega arith in ap (λ (x : ℕ). record { read = r; next = x }) o ∙ row_last h f
+        go false e =
+            let f : w.feed ≡ length s → ⊥ = eqb-false _ _ e in
+            let v = feed_within h in
+            let o : n ≡ w.feed + 1 = omega arith in
+            ap (λ (x : ℕ). record { read = r; next = x }) o ∙ row_ended h f
 
 -- ---- the same of two scans, one for the line feed and one for the comment
 
@@ -236,4 +218,4 @@ module _ (s : List ℕ) (i a b : ℕ) (e : a ≡ scan (holds (IsNot 10)) (take (
 
 pub ruleset scanned_laws = (row_past, scanned_feed_within, scanned_feed_fits, scanned_next_fits, scanned_code_within, scanned_code_fits, scanned_code_counts, scanned_row_last, scanned_row_ended, rules)
 
-pub ruleset row_laws = (row_past, next_fits, code_counts, row_last, row_ended, rules)
+pub ruleset row_laws = (row_past, next_fits, code_counts, row_next, rules)

@@ -1,24 +1,16 @@
 -- Where a line ends, the next piece of a row from a place on, and the row that a first piece, its operation and what follows make.
-use Rattle.std.specs.Prelude.{ℕ, ◌+◌, List, [], ◌∷◌, ◌++◌, Bool, not, ◌&&◌, eqb, length, drop}
-use Rattle.std.proofs.Math.Option.{Option, none, some}
+use Rattle.std.specs.Prelude.{ℕ, ◌+◌, List, [], ◌∷◌, Bool, not, ◌&&◌, eqb, length, drop, Option, Some, None}
 use Rattle.text.specs.Scan.{scan}
 use Rattle.text.specs.Lines.{not_feed}
 use Rattle.text.specs.Pieces.{piece_start, piece_length}
 use Rattle.text.specs.declared.Piece.{Piece}
 use Rattle.vm_opcodes.specs.declared.OlaOpcode.{OlaOpcode}
-use Rattle.vm_opcodes.specs.declared.OpcodeFound.{OpcodeFound}
-use Rattle.vm_opcodes.specs.declared.OpcodeFound.TheVariants.{Is as IsOpcode}
-use Rattle.asm.specs.Parts.{Part, pieces_from, line_at}
+use Rattle.asm.specs.Parts.{Part, line_at}
 use Rattle.asm.specs.Operands.{operand_of}
-use Rattle.asm.specs.Rows.{arranged_if, operands_of, label_row, or_else_row, of_row}
+use Rattle.asm.specs.Rows.{arranged_if, operands_of, label_row, or_else_row}
 use Rattle.asm.specs.declared.OlaAsmOperand.{OlaAsmOperand}
-use Rattle.asm.specs.declared.OperandRead.{OperandRead}
-use Rattle.asm.specs.declared.OperandRead.TheVariants.{Is as IsOperand, Unreadable}
-use Rattle.asm.specs.declared.RowRead.{RowRead}
-use Rattle.asm.specs.declared.LineRead.{LineRead}
-use Rattle.asm_rows.specs.declared.NextOperand.{NextOperand}
-use Rattle.asm_rows.specs.declared.NextOperand.TheVariants.{Is, Bad, End}
 use Rattle.asm_rows.specs.declared.LineEnds.{LineEnds}
+use Rattle.asm.specs.declared.AsmRow.{AsmRow}
 
 -- a byte that is not the one
 abbrev pub is_not : ℕ → ℕ → Bool
@@ -40,24 +32,17 @@ line_ends s i = record { end = i + scan (is_not 59) (line_at s i).text; feed = i
 unfoldable pub piece_at : List ℕ → ℕ → Piece
 piece_at l i = record { start = i + piece_start (drop i l); length = piece_length (drop i l) }
 
-abbrev pub as_operand : OperandRead → ℕ → NextOperand
-as_operand (IsOperand o) next = Is o next
-as_operand Unreadable next = Bad
+-- an operand and where what follows it starts; none where the piece is no operand
+abbrev pub as_operand : Option OlaAsmOperand → ℕ → Option (Option (OlaAsmOperand × ℕ))
+as_operand (Some o) next = Some (Some (o, next))
+as_operand None next = None
 
--- the operand that the first of the pieces is, and where what follows it starts
-abbrev pub next_operand : List Part → NextOperand
-next_operand [] = End
+-- the operand that the first of the pieces is, and where what follows it starts; `Some None` where there is no piece
+abbrev pub next_operand : List Part → Option (Option (OlaAsmOperand × ℕ))
+next_operand [] = Some None
 next_operand (q ∷ qs) = as_operand (operand_of q) (q.start + length q.text)
 
-abbrev pub ahead : List OlaAsmOperand → Option (List OlaAsmOperand) → Option (List OlaAsmOperand)
-ahead xs none = none
-ahead xs (some os) = some (xs ++ os)
-
--- the line of an operation from place i on, after the operands already read
-unfoldable pub line_after : OlaOpcode → List OlaAsmOperand → List ℕ → ℕ → LineRead
-line_after o xs l i = of_row (arranged_if (IsOpcode o) (ahead xs (operands_of (pieces_from i (drop i l)))))
-
 -- a row from the operation of its first piece, that piece and those after it
-abbrev pub row_given : OpcodeFound → Part → List Part → RowRead
-row_given f q [] = or_else_row (label_row q) (arranged_if f (some []))
+abbrev pub row_given : Option OlaOpcode → Part → List Part → Option AsmRow
+row_given f q [] = or_else_row (label_row q) (arranged_if f (Some []))
 row_given f q (p ∷ ps) = arranged_if f (operands_of (p ∷ ps))

@@ -1,23 +1,14 @@
 // The row reader: `AsmRow::from_str` and `split_ola_asm_pieces` of assembler/src/asm.rs, on the line of a source that starts at a place.
 #![tactic(auto)]
 
-ghost use Rattle.std.specs.Prelude.{◌≡◌, [], ◌∷◌, drop};
-ghost use Rattle.vm_opcodes.specs.declared.OpcodeFound.TheVariants.{Is, Nothing};
+ghost use Rattle.std.specs.Prelude.{◌≡◌, drop, Some, None};
 ghost use Rattle.asm.specs.Parts.{pieces_from};
 ghost use Rattle.asm.specs.Rows.{of_row, line_of, row_at};
-ghost use Rattle.asm_rows.specs.Found.{piece_at, next_operand, line_after, row_given, stop_at, line_ends};
+ghost use Rattle.asm_rows.specs.Found.{piece_at, next_operand, row_given, stop_at, line_ends};
 
-use asm::{LineRead, OlaAsmOperand, OperandRead, RowAt, RowRead};
+use asm::{AsmRow, LineRead, OlaAsmOperand, RowAt};
 use text::Piece;
-use vm_opcodes::{OlaOpcode, OpcodeFound};
-
-// The next operand of a row and where what follows it starts, a piece that is no operand, or that the row has ended.
-#[derive(Clone, Copy)]
-pub enum NextOperand {
-    Is(OlaAsmOperand, usize),
-    Bad,
-    End,
-}
+use vm_opcodes::OlaOpcode;
 
 // Where a line ends: without its comment, and at its line feed or the source's end.
 #[derive(Clone, Copy)]
@@ -30,117 +21,75 @@ pub struct LineEnds {
 fn piece_at(line: &[u8], at: usize) -> Piece
     ensures { result ≡ piece_at line.now at }
 {
-    if line.len() <= at {
-        return Piece {
-            start: at,
-            length: 0,
-        };
-    }
-    let piece = text_lines::first_piece(&line[at..]);
+    let piece = text_lines::first_piece(line.get(at..).unwrap_or(&[]));
     Piece {
         start: at + piece.start,
-        length: piece.length,
+        ..piece
     }
 }
 
-// The first piece from a place on, as an operand.
-fn next_operand(line: &[u8], at: usize) -> NextOperand
+// The first piece from a place on as an operand, and where what follows it starts: `Some(None)` where the row has ended, and `None` where the piece is no
+// operand.
+#[tactic(auto, using(crate::proofs::OperandLaws::next_laws))]
+fn next_operand(line: &[u8], at: usize) -> Option<Option<(OlaAsmOperand, usize)>>
     ensures { result ≡ next_operand (pieces_from at (drop at line.now)) }
 {
     let piece = piece_at(line, at);
     if piece.length == 0 {
-        return NextOperand::End;
+        return Some(None);
     }
-    let start = piece.start;
-    let end = start + piece.length;
-    match asm_operands::from_str(&line[start..end], start) {
-        OperandRead::Is(o) => NextOperand::Is(o, end),
-        OperandRead::Unreadable => NextOperand::Bad,
-    }
+    let end = piece.start + piece.length;
+    let operand = asm_operands::from_str(&line[piece.start..end], piece.start)?;
+    Some(Some((operand, end)))
 }
 
-// The line of an operation from a place on, where three operands were read.
-fn after_three(
+// The row of an operation's word, which starts at a place of the source, and of the pieces from another on: a label, where the word stands alone, or its
+// operation with up to three operands.
+#[tactic(auto, using(crate::proofs::OperandLaws::operand_laws))]
+fn operation_row(
     line: &[u8],
+    word: &[u8],
+    start: usize,
     at: usize,
     opcode: OlaOpcode,
-    a: OlaAsmOperand,
-    b: OlaAsmOperand,
-    c: OlaAsmOperand,
-) -> LineRead
-    ensures { result ≡ line_after opcode (a ∷ b ∷ c ∷ []) line.now at }
+) -> Option<AsmRow>
+    ensures { result ≡ row_given (Some opcode) (record { start = start; text = word.now }) (pieces_from at (drop at line.now)) }
 {
-    let piece = piece_at(line, at);
-    if piece.length == 0 {
-        return asm_instructions::of_three(opcode, a, b, c);
+    let Some((a, at)) = next_operand(line, at)? else {
+        return asm_labels::label_row(word, start).or(asm_instructions::of_operands(opcode, &[]));
+    };
+    let Some((b, at)) = next_operand(line, at)? else {
+        return asm_instructions::of_operands(opcode, &[a]);
+    };
+    let Some((c, at)) = next_operand(line, at)? else {
+        return asm_instructions::of_operands(opcode, &[a, b]);
+    };
+    if piece_at(line, at).length != 0 {
+        return None;
     }
-    LineRead::Unreadable
+    asm_instructions::of_operands(opcode, &[a, b, c])
 }
 
-// Where two were read.
-fn after_two(
-    line: &[u8],
-    at: usize,
-    opcode: OlaOpcode,
-    a: OlaAsmOperand,
-    b: OlaAsmOperand,
-) -> LineRead
-    ensures { result ≡ line_after opcode (a ∷ b ∷ []) line.now at }
+// The row of a word that is no operation's: a label that stands alone.
+#[tactic(auto, using(crate::proofs::RowLaws::label_laws))]
+fn label_row(line: &[u8], word: &[u8], start: usize, at: usize) -> Option<AsmRow>
+    ensures { result ≡ row_given None (record { start = start; text = word.now }) (pieces_from at (drop at line.now)) }
 {
-    match next_operand(line, at) {
-        NextOperand::Is(c, next) => after_three(line, next, opcode, a, b, c),
-        NextOperand::Bad => LineRead::Unreadable,
-        NextOperand::End => asm_instructions::of_two(opcode, a, b),
+    if piece_at(line, at).length != 0 {
+        return None;
     }
+    asm_labels::label_row(word, start)
 }
 
-// Where one was read.
-fn after_one(line: &[u8], at: usize, opcode: OlaOpcode, a: OlaAsmOperand) -> LineRead
-    ensures { result ≡ line_after opcode (a ∷ []) line.now at }
+// The line of a row.
+fn of_row(row: Option<AsmRow>) -> LineRead
+    ensures { result ≡ of_row row }
 {
-    match next_operand(line, at) {
-        NextOperand::Is(b, next) => after_two(line, next, opcode, a, b),
-        NextOperand::Bad => LineRead::Unreadable,
-        NextOperand::End => asm_instructions::of_one(opcode, a),
-    }
-}
-
-// The line of an operation's word that stands alone.
-fn single_row(word: &[u8], start: usize, opcode: OlaOpcode) -> LineRead
-    ensures { result ≡ of_row (row_given (Is opcode) (record { start = start; text = word.now }) []) }
-{
-    match asm_labels::label_row(word, start) {
-        RowRead::Is(row) => LineRead::Row(row),
-        RowRead::Unreadable => asm_instructions::of_none(opcode),
-    }
-}
-
-// The line of an operation's word, which starts at a place of the source, and of the pieces from another on.
-fn operation_line(line: &[u8], word: &[u8], start: usize, at: usize, opcode: OlaOpcode) -> LineRead
-    ensures { result ≡ of_row (row_given (Is opcode) (record { start = start; text = word.now }) (pieces_from at (drop at line.now))) }
-{
-    match next_operand(line, at) {
-        NextOperand::Is(a, next) => after_one(line, next, opcode, a),
-        NextOperand::Bad => LineRead::Unreadable,
-        NextOperand::End => single_row(word, start, opcode),
-    }
-}
-
-// The line of a word that is no operation's: a label that stands alone.
-fn label_line(line: &[u8], word: &[u8], start: usize, at: usize) -> LineRead
-    ensures { result ≡ of_row (row_given Nothing (record { start = start; text = word.now }) (pieces_from at (drop at line.now))) }
-{
-    let piece = piece_at(line, at);
-    if piece.length != 0 {
-        return LineRead::Unreadable;
-    }
-    match asm_labels::label_row(word, start) {
-        RowRead::Is(row) => LineRead::Row(row),
-        RowRead::Unreadable => LineRead::Unreadable,
-    }
+    row.map_or(LineRead::Unreadable, LineRead::Row)
 }
 
 // What the pieces of a text from a place on are as a row.
+#[tactic(auto, using(crate::proofs::RowLaws::line_laws))]
 fn line_read(line: &[u8], at: usize) -> LineRead
     ensures { result ≡ line_of (pieces_from at (drop at line.now)) }
 {
@@ -152,30 +101,27 @@ fn line_read(line: &[u8], at: usize) -> LineRead
     let end = start + piece.length;
     let word = &line[start..end];
     match vm_mnemonics::from_str(word) {
-        OpcodeFound::Is(opcode) => operation_line(line, word, start, end, opcode),
-        OpcodeFound::Nothing => label_line(line, word, start, end),
+        Some(opcode) => of_row(operation_row(line, word, start, end, opcode)),
+        None => of_row(label_row(line, word, start, end)),
     }
 }
 
 // Where a line stops from a place on: at the first byte that is the mark, at its line feed, or at the source's end.
+#[tactic(auto, using(crate::proofs::EndLaws::stop_laws))]
 fn stop_at(source: &[u8], at: usize, mark: u8) -> usize
     ensures { result ≡ stop_at source.now at mark }
 {
-    let mut i = at;
-    while i < source.len() {
+    for i in at..source.len() {
         let b = source[i];
-        if b == mark {
+        if b == mark || b == b'\n' {
             return i;
         }
-        if b == b'\n' {
-            return i;
-        }
-        i += 1;
     }
-    i
+    at.max(source.len())
 }
 
 // Where the line that starts at a place ends: its line feed is sought on from its comment.
+#[tactic(auto, using(crate::proofs::EndLaws::end_laws))]
 fn line_ends(source: &[u8], at: usize) -> LineEnds
     ensures { result ≡ line_ends source.now at }
 {
@@ -185,6 +131,7 @@ fn line_ends(source: &[u8], at: usize) -> LineEnds
 }
 
 // The line of a source that starts at a place, its comment cut, read as a row, and where the line after it starts.
+#[tactic(auto, using(crate::proofs::RowLaws::row_laws))]
 pub fn row_at(source: &[u8], at: usize) -> RowAt
     ensures { result ≡ row_at source.now at }
 {
@@ -194,15 +141,9 @@ pub fn row_at(source: &[u8], at: usize) -> RowAt
             next: at,
         };
     }
-    let ends = line_ends(source, at);
-    let end = ends.end;
-    let feed = ends.feed;
-    let read = line_read(&source[..end], at);
-    if feed == source.len() {
-        return RowAt { read, next: feed };
-    }
+    let LineEnds { end, feed } = line_ends(source, at);
     RowAt {
-        read,
-        next: feed + 1,
+        read: line_read(&source[..end], at),
+        next: source.len().min(feed + 1),
     }
 }

@@ -1,51 +1,33 @@
 -- What the functions that shapes are made of find, one law for each way out.
-use Prim.Native.Nat.{ℕ, suc, ◌+◌, ◌-◌, ◌^◌, ◌<◌, ◌≤◌}
+use Rattle.std.specs.Prelude.{Option, Some, None, Result, Ok}
+use Prim.Native.Nat.{ℕ, suc, ◌+◌, ◌-◌, ◌<◌, ◌≤◌}
 use mathlib.Core.Path.{◌≡◌, refl, sym, ap, ◌∙◌}
 use mathlib.Core.List.{List, [], ◌∷◌}
 use mathlib.Core.Bool.{Bool, true, false, not, ◌&&◌, cond, and-false, or-true, or-false}
 use native.Mathlib.Omega.{arith}
 use borrow.Author.Rules.{rules}
-use borrow.Author.Tests.{lt-ltb, le-ltb, eq-eqb, ne_eqb, eqb-true, eqb-false}
-use mir.Val.{Fits}
-use mir.Syntax.{w64}
+use borrow.Author.Tests.{lt-ltb, eq-eqb, ne_eqb}
 use lib.Dec.{eqb, ltb}
 use lib.ListN.{length, get_or, take, drop, length-drop, get_or-eq_default}
-use lib.Seq.{length-take-le, get_or-take, get_or-drop}
+use Rattle.std.specs.List.{slice_range}
+use lib.Seq.{length-take-le, get_or-take, get_or-drop, drop-drop}
 use Rattle.text.specs.Bytes.{is_digit, is_letter, is_word}
 use Rattle.text.specs.Scan.{scan, all}
 use Rattle.text.specs.Classes.{holds}
 use Rattle.text.specs.declared.ByteClass.TheVariants.{Digit, Letter, Word, Is as IsByte}
 use Rattle.text.proofs.Laws.{scan_all, all_scan, part_from, scan_within, told_not_true, told_not_false}
-use Rattle.text_read.specs.Numerals.{numeral, decimal}
-use Rattle.text_read.specs.declared.Numeral.{Numeral}
-use Rattle.text_read.specs.declared.Numeral.TheVariants.{Value, Nothing as NoNumeral}
+use Rattle.text_read.specs.Numerals.{decimal}
 use Rattle.vm_hardware.specs.Registers.{register_of}
-use Rattle.vm_hardware.specs.declared.RegisterFound.{RegisterFound}
-use Rattle.vm_hardware.specs.declared.RegisterFound.TheVariants.{Nothing as NoRegister}
 use Rattle.vm_operands.specs.Numbers.{order, is_minus, unsigned, signed, number_of}
 use Rattle.vm_operands.specs.declared.ImmediateValue.{ImmediateValue}
-use Rattle.vm_operands.specs.declared.ImmediateFound.{ImmediateFound}
-use Rattle.vm_operands.specs.declared.ImmediateFound.TheVariants.{Is as IsNumber}
 use Rattle.asm.specs.Operands.{byte_is, is_digits, is_pair, is_name, hex_numeral, is_source_number, source_number}
 use Rattle.asm_shapes.specs.Shapes.{register_found_at, in_range, source_number_of}
-use Rattle.asm_shapes.specs.declared.SourceNumber.{SourceNumber}
-use Rattle.asm_shapes.specs.declared.SourceNumber.TheVariants.{Is, Other}
-
--- a test of equality, the other way round
-eqb_turned : (a b : ℕ) → eqb a b ≡ eqb b a
-eqb_turned a b = go (eqb b a) refl
-  where
-    go : (t : Bool) → eqb b a ≡ t → eqb a b ≡ t
-    go true e = eq-eqb a b (sym (eqb-true b a e))
-    go false e = ne_eqb a b (λ q. eqb-false b a e (sym q))
+use Rattle.asm_shapes.specs.declared.OutOfRange.{OutOfRange}
+use Rattle.vm_hardware.specs.declared.OlaRegister.{OlaRegister}
 
 -- past the end stands 0
 past : (x : List ℕ) (k : ℕ) → length x ≤ k → get_or x k 0 ≡ 0
 past x k h = get_or-eq_default x 0 h
-
--- the test for a byte past the end is a test for 0
-pub byte_past : (x : List ℕ) (k b : ℕ) → length x ≤ k → eqb b 0 ≡ byte_is x k b
-byte_past x k b h = eqb_turned b 0 ∙ ap (λ (a : ℕ). eqb a b) (sym (past x k h))
 
 -- all bytes pass where the scan reaches the end, and only there
 all_by_scan : (p : ℕ → Bool) (x : List ℕ) → eqb (scan p x) (length x) ≡ all p x
@@ -56,9 +38,9 @@ all_by_scan p x = go (all p x) refl
     go false e = ne_eqb _ _ (λ q. let h = all_scan p x q in let z : ◌≡◌ {A = ℕ} 0 1 = cc in omega arith)
 
 -- where no digit was scanned these are no digits
-pub digits_none : (x : List ℕ) (n : ℕ) → n ≡ scan (holds Digit) x → n ≡ 0 → false ≡ is_digits x
-digits_none [] n e h = refl
-digits_none (y ∷ ys) n e h = sym (ne_eqb (scan is_digit (y ∷ ys)) (suc (length ys)) (λ q. omega arith)) ∙ all_by_scan is_digit (y ∷ ys)
+pub digits_none : (x : List ℕ) (n : ℕ) → n ≡ scan (holds Digit) x → n ≡ 0 → not (eqb n 0) ≡ is_digits x
+digits_none [] n e h = rw h
+digits_none (y ∷ ys) n e h = rw h (sym (ne_eqb (scan is_digit (y ∷ ys)) (suc (length ys)) (λ q. omega arith)) ∙ all_by_scan is_digit (y ∷ ys))
 
 -- where one was, they are digits exactly where the scan reached the end
 pub digits_all : (x : List ℕ) (n : ℕ) → n ≡ scan (holds Digit) x → (n ≡ 0 → ⊥) → eqb n (length x) ≡ is_digits x
@@ -68,19 +50,13 @@ digits_all (y ∷ ys) n e h = ap (λ (k : ℕ). eqb k (suc (length ys))) e ∙ a
 
 pub ruleset digits_laws = (digits_none, digits_all)
 
--- a scan that stopped before the end
-module _ (p : ℕ → Bool) (x : List ℕ) (n : ℕ) (e : n ≡ scan p x) (h : n ≡ length x → ⊥) where
-  -- there is a byte where it stopped
-  pub stopped_within : n < length x
-  stopped_within = let w = scan_within p x n e in omega arith
+-- the first byte of what stands from place k on
+first_from : (x : List ℕ) (k : ℕ) → get_or (take (length x - k) (drop k x)) 0 0 ≡ get_or x k 0
+first_from x k = ap (λ (l : List ℕ). get_or l 0 0) (part_from k x) ∙ get_or-drop k x 0 0 ∙ ap (λ (i : ℕ). get_or x i 0) (omega arith)
 
-  -- the byte after it is within the text or at its end
-  pub stopped_next : n + 1 ≤ length x
-  stopped_next = let w = stopped_within in omega arith
-
-  -- and its place fits 64 bits
-  pub stopped_fits : length x < 2 ^ 64 → Fits w64 (n + 1)
-  stopped_fits f = let w = stopped_within in omega arith
+-- what stands after it
+rest_from : (x : List ℕ) (k : ℕ) → take (length (take (length x - k) (drop k x)) - 1) (drop 1 (take (length x - k) (drop k x))) ≡ drop (k + 1) x
+rest_from x k = part_from 1 (take (length x - k) (drop k x)) ∙ ap (drop 1) (part_from k x) ∙ drop-drop 1 k x
 
 -- a pair, where its first digits are told to end
 pair_at : List ℕ → ℕ → Bool
@@ -98,23 +74,25 @@ module _ (x : List ℕ) (n : ℕ) (e : n ≡ scan (holds Digit) x) where
   pair_none h = ap (pair_at x) (sym h) ∙ by_place
 
   -- digits up to the end, no pair
-  pub pair_end : n ≡ length x → false ≡ is_pair x
+  pub pair_end : length (take (length x - n) (drop n x)) < 1 → false ≡ is_pair x
   unfolding pair_at
   pair_end h =
+      let l = length-drop n x in
+      let m = ap length (part_from n x) in
       let z : get_or x n 0 ≡ 0 = past x n (omega arith) in
       sym (ap (λ (b : ℕ). ltb 0 n && eqb b 95 && is_digits (drop (n + 1) x)) z ∙ rw (and-false (ltb 0 n))) ∙ by_place
 
   -- another byte than `_` after the digits, no pair
-  pub pair_other : (get_or x n 0 ≡ 95 → ⊥) → false ≡ is_pair x
+  pub pair_other : (get_or (take (length x - n) (drop n x)) 0 0 ≡ 95 → ⊥) → false ≡ is_pair x
   unfolding pair_at
-  pair_other h = sym (rw (ne_eqb _ _ h, and-false (ltb 0 n))) ∙ by_place
+  pair_other h = sym (rw (ne_eqb _ _ (λ q. h (first_from x n ∙ q)), and-false (ltb 0 n))) ∙ by_place
 
   -- digits and `_`: a pair exactly where digits follow
-  pub pair_rest : (n ≡ 0 → ⊥) → get_or x n 0 ≡ 95 → (r : Bool) → r ≡ is_digits (take (length x - (n + 1)) (drop (n + 1) x)) → r ≡ is_pair x
+  pub pair_rest : (n ≡ 0 → ⊥) → get_or (take (length x - n) (drop n x)) 0 0 ≡ 95 → (r : Bool) → r ≡ is_digits (take (length (take (length x - n) (drop n x)) - 1) (drop 1 (take (length x - n) (drop n x)))) → r ≡ is_pair x
   unfolding pair_at
-  pair_rest h g r f = f ∙ ap is_digits (part_from (n + 1) x) ∙ sym (rw (lt-ltb 0 n (omega arith), eq-eqb _ _ g)) ∙ by_place
+  pair_rest h g r f = f ∙ ap is_digits (rest_from x n) ∙ sym (rw (lt-ltb 0 n (omega arith), eq-eqb _ _ (sym (first_from x n) ∙ g))) ∙ by_place
 
-pub ruleset pair_laws = (pair_none, pair_end, pair_other, pair_rest, stopped_within, stopped_next, stopped_fits, rules)
+pub ruleset pair_laws = (pair_none, pair_end, pair_other, pair_rest, scan_within, rules)
 
 -- a name, where its first underscores are told to end
 name_at : List ℕ → ℕ → Bool
@@ -127,134 +105,88 @@ module _ (x : List ℕ) (n : ℕ) (e : n ≡ scan (holds (IsByte 95)) x) where
   by_letter = ap (name_at x) e
 
   -- underscores up to the end, no name
-  pub name_end : n ≡ length x → false ≡ is_name x
+  pub name_end : length (take (length x - n) (drop n x)) < 1 → false ≡ is_name x
   unfolding name_at is_letter
   name_end h =
+      let l = length-drop n x in
+      let m = ap length (part_from n x) in
       let z : get_or x n 0 ≡ 0 = past x n (omega arith) in
       sym (ap (λ (b : ℕ). is_letter b && all is_word (drop n x)) z) ∙ by_letter
 
-  module _ (b : Bool) (f : b ≡ holds Letter (get_or x n 0)) where
+  module _ (b : Bool) (f : b ≡ holds Letter (get_or (take (length x - n) (drop n x)) 0 0)) where
+    -- the byte after them, by its test
+    letter_told : is_letter (get_or x n 0) ≡ b
+    letter_told = sym (f ∙ ap is_letter (first_from x n))
+
     -- no letter after them, no name
-    pub name_other : not b ≡ true → false ≡ is_name x
+    pub name_other : b ≡ false → false ≡ is_name x
     unfolding name_at
-    name_other h = sym (rw (told_not_true b _ f h)) ∙ by_letter
+    name_other h = sym (rw (letter_told, h)) ∙ by_letter
 
     -- a letter: a name exactly where the scan of word bytes reaches the end
-    pub name_rest : not b ≡ false → (m : ℕ) → m ≡ scan (holds Word) (take (length x - n) (drop n x)) → eqb m (length (take (length x - n) (drop n x))) ≡ is_name x
+    pub name_rest : b ≡ true → (m : ℕ) → m ≡ scan (holds Word) (take (length x - n) (drop n x)) → eqb m (length (take (length x - n) (drop n x))) ≡ is_name x
     unfolding name_at
     name_rest h m g =
         ap (λ (k : ℕ). eqb k (length (take (length x - n) (drop n x)))) g
         ∙ all_by_scan is_word (take (length x - n) (drop n x))
         ∙ ap (all is_word) (part_from n x)
-        ∙ sym (rw (told_not_false b _ f h))
+        ∙ sym (rw (letter_told, h))
         ∙ by_letter
 
-pub ruleset name_laws = (name_end, name_other, name_rest, stopped_within, scan_within, rules)
+pub ruleset name_laws = (name_end, name_other, name_rest, scan_within, rules)
 
 -- a register at place k
 module _ (x : List ℕ) (k : ℕ) where
   -- none where its digit would stand past the end
-  register_past : length x ≤ k + 1 → NoRegister ≡ register_found_at x k
+  pub register_past : length x ≤ k + 1 → None ≡ register_found_at x k
   unfolding register_found_at is_digit
   register_past h = sym (rw (past x (k + 1) h, and-false (byte_is x k 114)))
 
-  -- none in fewer than two bytes
-  pub register_short : length x < 2 → NoRegister ≡ register_found_at x k
-  register_short h = register_past (omega arith)
+  module _ (y : List ℕ) (e : y ≡ slice_range x k (length x)) where
+    -- what stands from the place on
+    from_place : y ≡ drop k x
+    from_place = e ∙ part_from k x
 
-  -- none where fewer than two bytes stand from the place on
-  pub register_over : length x - 2 < k → NoRegister ≡ register_found_at x k
-  register_over h = register_past (omega arith)
+    -- none in fewer than two bytes from the place on
+    pub register_short : length y < 2 → None ≡ register_found_at x k
+    register_short h = let l = length-drop k x in let m = ap length from_place in register_past (omega arith)
 
-  -- elsewhere it is the register that the two bytes there name
-  pub register_there_lem : 2 ≤ length x → k ≤ length x - 2 → (r : RegisterFound) → r ≡ register_of (take (k + 2 - k) (drop k x)) → r ≡ register_found_at x k
-  unfolding register_found_at register_of
-  register_there_lem h g r f =
-      let n : k + 2 - k ≡ 2 = omega arith in
-      let l : length (take 2 (drop k x)) ≡ 2 = length-take-le 2 (drop k x) (simp length-drop (omega arith)) in
-      let a : get_or (drop k x) 0 0 ≡ get_or x k 0 = get_or-drop k x 0 0 ∙ ap (λ (i : ℕ). get_or x i 0) (omega arith) in
-      f ∙ rw (n, l, get_or-take 2 (drop k x) 0 0 (omega arith), get_or-take 2 (drop k x) 1 0 (omega arith), a, get_or-drop k x 1 0)
+    -- elsewhere it is the register that the two bytes there name
+    pub register_there : 2 ≤ length y → (z : List ℕ) → z ≡ slice_range y 0 2 → (r : Option OlaRegister) → r ≡ register_of z → r ≡ register_found_at x k
+    unfolding register_found_at register_of
+    register_there h z f r g =
+        let l : length (take 2 (drop k x)) ≡ 2 = length-take-le 2 (drop k x) (omega (arith, ap length from_place)) in
+        let a : get_or (drop k x) 0 0 ≡ get_or x k 0 = get_or-drop k x 0 0 ∙ ap (λ (i : ℕ). get_or x i 0) (omega arith) in
+        g ∙ rw (f, from_place) (rw (l, get_or-take 2 (drop k x) 0 0 (omega arith), get_or-take 2 (drop k x) 1 0 (omega arith), a, get_or-drop k x 1 0))
 
-pub ruleset register_laws = (register_short, register_over, register_there_lem)
-
--- `0x` and digits, at each return
-module _ (x : List ℕ) where
-  -- too few bytes for a digit
-  pub hex_short : length x < 3 → NoNumeral ≡ hex_numeral x
-  unfolding numeral
-  hex_short h = go x h
-    where
-      go : (x : List ℕ) → length x < 3 → NoNumeral ≡ hex_numeral x
-      go [] h = refl
-      go (a ∷ []) h = rw (and-false (eqb a 48))
-      go (a ∷ b ∷ []) h = either (eqb a 48 && eqb b 120)
-        where
-          either : (t : Bool) → NoNumeral ≡ cond (t && true) NoNumeral NoNumeral
-          either true = refl
-          either false = refl
-      go (a ∷ b ∷ c ∷ r) h = absurd (omega arith)
-
-  -- no `0`, no `x`
-  pub hex_zero : (get_or x 0 0 ≡ 48 → ⊥) → NoNumeral ≡ hex_numeral x
-  hex_zero h = rw (ne_eqb _ _ h)
-
-  pub hex_x : (get_or x 1 0 ≡ 120 → ⊥) → NoNumeral ≡ hex_numeral x
-  hex_x h = rw (ne_eqb _ _ h, and-false (byte_is x 0 48))
-
-  -- more than sixteen digits
-  pub hex_long : 18 < length x → NoNumeral ≡ hex_numeral x
-  hex_long h = rw (le-ltb (length x) 19 (omega arith), and-false (byte_is x 0 48 && byte_is x 1 120))
-
-  -- what the digits say
-  pub hex_digits : length x ≤ 18 → get_or x 0 0 ≡ 48 → get_or x 1 0 ≡ 120 → (r : Numeral) → r ≡ numeral 16 (2 ^ 64) (take (length x - 2) (drop 2 x)) → r ≡ hex_numeral x
-  hex_digits h k l r e = e ∙ rw (part_from 2 x, eq-eqb _ _ k, eq-eqb _ _ l, lt-ltb (length x) 19 (omega arith))
-
-pub ruleset hex_laws = (hex_short, hex_zero, hex_x, hex_long, hex_digits, rules)
-
--- what was read and is in range
-pub range_is : (f : ImmediateFound) (v : ImmediateValue) → f ≡ IsNumber v → Is v ≡ in_range f
-range_is f v e = rw e
-
-pub ruleset range_laws = (range_is)
+pub ruleset register_laws = (register_past, register_short, register_there)
 
 -- n in decimal: digits behind a sign, or behind none
-abbrev decimal_of : Bool → List ℕ → SourceNumber
-decimal_of negative d = cond (is_digits d) (in_range (signed negative (decimal order d))) Other
-
--- by whether they are ones
-module _ (negative : Bool) (d : List ℕ) (t : Bool) (e : t ≡ is_digits d) where
-  -- another shape
-  pub decimal_other : not t ≡ true → Other ≡ decimal_of negative d
-  decimal_other h = sym (rw (told_not_true t _ e h))
-
-  -- what they say
-  pub decimal_is : not t ≡ false → (q : Numeral) → q ≡ decimal order d → (f : ImmediateFound) → f ≡ signed negative q → (o : SourceNumber) → o ≡ in_range f → o ≡ decimal_of negative d
-  decimal_is h q k f g o l = l ∙ ap in_range (g ∙ ap (signed negative) k) ∙ sym (rw (told_not_false t _ e h))
-
-pub ruleset decimal_laws = (decimal_other, decimal_is)
+abbrev decimal_of : Bool → List ℕ → Result (Option ImmediateValue) OutOfRange
+decimal_of negative d = cond (is_digits d) (in_range (signed negative (decimal order d))) (Ok None)
 
 -- a number, by what its hexadecimal digits said
-module _ (x : List ℕ) (n : Numeral) (e : n ≡ hex_numeral x) where
+module _ (x : List ℕ) (n : Option ℕ) (e : n ≡ hex_numeral x) where
   -- a value
-  pub number_hex : (v : ℕ) → n ≡ Value v → (f : ImmediateFound) → f ≡ signed false (Value v) → (o : SourceNumber) → o ≡ in_range f → o ≡ source_number_of x
+  pub number_hex : (v : ℕ) → n ≡ Some v → (f : Option ImmediateValue) → f ≡ signed false (Some v) → (o : Result (Option ImmediateValue) OutOfRange) → o ≡ in_range f → o ≡ source_number_of x
   unfolding source_number_of is_source_number source_number
   number_hex v h f k o l = l ∙ ap in_range k ∙ sym (rw (← e, h, or-true (is_digits (unsigned x))))
 
   -- none: decimal digits decide, behind their sign
-  module _ (h : n ≡ NoNumeral) where
+  module _ (h : n ≡ None) where
     told : source_number_of x ≡ decimal_of (is_minus x) (unsigned x)
     unfolding source_number_of is_source_number source_number number_of
     told = rw (← e, h, or-false (is_digits (unsigned x)))
 
     -- no text
-    pub number_none : length x ≡ 0 → Other ≡ source_number_of x
+    pub number_none : length x ≡ 0 → (Ok None) ≡ source_number_of x
     number_none k = go x k ∙ sym told
       where
-        go : (x : List ℕ) → length x ≡ 0 → Other ≡ decimal_of (is_minus x) (unsigned x)
+        go : (x : List ℕ) → length x ≡ 0 → (Ok None) ≡ decimal_of (is_minus x) (unsigned x)
         go [] k = refl
         go (y ∷ ys) k = absurd (omega arith)
 
-    module _ (o : SourceNumber) where
+    module _ (o : Result (Option ImmediateValue) OutOfRange) where
       -- after `-`
       pub number_minus : get_or x 0 0 ≡ 45 → o ≡ decimal_of true (take (length x - 1) (drop 1 x)) → o ≡ source_number_of x
       number_minus k l = l ∙ ap (decimal_of true) (part_from 1 x) ∙ sym (told ∙ rw (eq-eqb _ _ k))

@@ -1,5 +1,6 @@
 -- Surveys that separate likely misreadings, by computation: blank lines, comments, brackets that take a counted word and no emitted one,
 -- two mains, whitespace before a label. Expected values are counted by hand from document 01, and the words from document 02, point 1.
+use Rattle.std.specs.Prelude.{Some, None}
 use mathlib.Core.Path.{◌≡◌, refl}
 use mathlib.Core.List.{List, [], ◌∷◌, map}
 use Prim.Native.Nat.{ℕ}
@@ -15,22 +16,21 @@ use Rattle.asm.specs.Parts.{placed, filled_parts, pieces_from, line_pieces, row_
 use Rattle.asm.specs.Operands.{is_source_number, source_number, shapes, first_match}
 use Rattle.asm.specs.Rows.{arranged, operands_of, arranged_if, is_call_row, is_pair_row, label_row, row_of, read_rows, instructions}
 use Rattle.asm.specs.Survey.{count_rows, first_call, main_start, main_end, survey_from, survey_of, joined_surveys, moved_survey}
-use Rattle.asm.specs.declared.PlaceFound.TheVariants.{At, Nothing}
 use Rattle.asm.specs.declared.Tally.{Tally}
 
 cases : List (List ℕ × Answer Tally)
 cases =
-    (bytes "", ok (record { rows = 0; labels = 0; instructions = 0; mains = 0; counted = 0; words = 0; call = Nothing; main = Nothing; end = Nothing }))
+    (bytes "", ok (record { rows = 0; labels = 0; instructions = 0; mains = 0; counted = 0; words = 0; call = None; main = None; end = None }))
     ∷ (
       bytes "f:\nret\n\n; c\nmain:\nmov r1 -1\ncall f\n.PROPHET0_0:\nend",
-      ok (record { rows = 7; labels = 3; instructions = 4; mains = 1; counted = 6; words = 6; call = At 0; main = At 12; end = Nothing }),
+      ok (record { rows = 7; labels = 3; instructions = 4; mains = 1; counted = 6; words = 6; call = Some 0; main = Some 12; end = None }),
     )
     ∷ (
       bytes "main:\nmload r1 [r2,r3]\nmov r1 [r2]\nmstore [r2,5] r1\nadd r1 5 r2\ng:\nmain:",
-      ok (record { rows = 7; labels = 3; instructions = 4; mains = 2; counted = 8; words = 6; call = At 0; main = At 0; end = At 64 }),
+      ok (record { rows = 7; labels = 3; instructions = 4; mains = 2; counted = 8; words = 6; call = Some 0; main = Some 0; end = Some 64 }),
     )
-    ∷ (bytes ".LBL1_1:\n\tmain:\r\n end ;x\n", ok (record { rows = 3; labels = 2; instructions = 1; mains = 1; counted = 1; words = 1; call = At 10; main = At 10; end = Nothing }))
-    ∷ (bytes "Main:\nmain:\n f:", ok (record { rows = 3; labels = 3; instructions = 0; mains = 1; counted = 0; words = 0; call = At 0; main = At 6; end = At 13 }))
+    ∷ (bytes ".LBL1_1:\n\tmain:\r\n end ;x\n", ok (record { rows = 3; labels = 2; instructions = 1; mains = 1; counted = 1; words = 1; call = Some 10; main = Some 10; end = None }))
+    ∷ (bytes "Main:\nmain:\n f:", ok (record { rows = 3; labels = 3; instructions = 0; mains = 1; counted = 0; words = 0; call = Some 0; main = Some 6; end = Some 13 }))
     ∷ (bytes "\nmain:\n\n bad x\nworse", refused 3 1)
     ∷ (bytes "main :", refused 3 0)
     ∷ []
@@ -41,7 +41,7 @@ unfolding cases is_space is_digit is_letter is_word same total scan all parts �
 surveys_right = refl
 
 -- main's scope that runs on into the second text ends at its first call label; an unreadable row of the second is counted after the first's
-ends_later : joined_surveys (survey_of (bytes "main:\nend")) (moved_survey 10 (survey_of (bytes "end\nf:"))) ≡ ok (record { rows = 4; labels = 2; instructions = 2; mains = 1; counted = 2; words = 2; call = At 0; main = At 0; end = At 14 })
+ends_later : joined_surveys (survey_of (bytes "main:\nend")) (moved_survey 10 (survey_of (bytes "end\nf:"))) ≡ ok (record { rows = 4; labels = 2; instructions = 2; mains = 1; counted = 2; words = 2; call = Some 0; main = Some 0; end = Some 14 })
 unfolding is_space is_digit is_letter is_word same total scan all parts ◌>>=◌ operations first_operation registers register_of special_of placed filled_parts pieces_from line_pieces row_pieces name_at arranged operands_of arranged_if is_call_row is_pair_row label_row row_of read_rows instructions count_rows first_call main_start main_end survey_from joined_surveys
 ends_later = refl
 

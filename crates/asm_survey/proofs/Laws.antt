@@ -1,20 +1,24 @@
 -- Laws of the survey: the sums with one row more, and the walk over the lines.
-use Prim.Native.Nat.{ℕ, ◌+◌, ◌-◌, ◌^◌, ◌<◌, ◌≤◌}
-use mathlib.Core.Path.{◌≡◌, refl, sym, ◌∙◌}
+use Rattle.std.specs.Prelude.{Option, Some, None}
+use Prim.Native.Nat.{ℕ, ◌+◌, ◌^◌, ◌<◌, ◌≤◌}
+use mathlib.Core.Path.{◌≡◌, refl, sym, ap, ◌∙◌}
 use mathlib.Core.List.{List, [], ◌∷◌}
-use mathlib.Core.Bool.{Bool, true, false, ◌||◌, cond}
+use mathlib.Core.Bool.{Bool, true, false, ◌&&◌, ◌||◌, cond}
 use native.Mathlib.Omega.{arith}
 use borrow.Author.Rules.{rules}
-use borrow.Author.Tests.{le-leb, lt-leb, leb-true}
+use borrow.Author.Tests.{lt-leb, leb-true, leb-false, eq-eqb, ne_eqb, eqb-true, eqb-false}
 use mir.Val.{Fits}
 use mir.Syntax.{w64}
-use lib.Dec.{leb}
-use lib.ListN.{length, take, drop, length-drop}
+use lib.Dec.{eqb, leb}
+use lib.Pointwise.{pointwise}
+use lib.ListN.{length, take, drop, length-drop, length-take}
 use lib.Seq.{length-take-le}
 use Rattle.text.specs.Bytes.{bytes, same}
 use Rattle.text.specs.Lists.{total}
+use Rattle.text.proofs.Laws.{part_from}
+use Rattle.std.specs.List.{slice_range}
 use Rattle.text.proofs.SameLaws.{same_off}
-use Rattle.asm.specs.Parts.{name_at}
+use Rattle.asm.specs.Parts.{name_at, bytes_in}
 use Rattle.asm.specs.Rows.{instructions, counted, counted_length}
 use Rattle.vm_opcodes.specs.Operations.{row_places}
 use Rattle.asm.specs.Survey.{is_memory_row, takes_word, word_count, count_rows, or_place, first_call, main_start, main_end, tally_of, joined, joined_end}
@@ -23,8 +27,6 @@ use Rattle.asm.specs.declared.OlaAsmOperand.TheVariants.{Empty, ImmediateOperand
 use Rattle.asm.specs.declared.OlaAsmInstruction.{OlaAsmInstruction}
 use Rattle.asm.specs.declared.AsmRow.{AsmRow}
 use Rattle.asm.specs.declared.AsmRow.TheVariants.{Instruction, LabelCall, LabelJmp, LabelProphet}
-use Rattle.asm.specs.declared.PlaceFound.{PlaceFound}
-use Rattle.asm.specs.declared.PlaceFound.TheVariants.{At, Nothing}
 use Rattle.asm.specs.declared.Tally.{Tally}
 use Rattle.asm_laws.proofs.JoinLaws.{or_nothing}
 use Rattle.asm_survey.specs.Small.{Small, call_tally}
@@ -43,44 +45,48 @@ name_off s start n h = go (leb (start + n) (length s)) refl
         rw e (same_off (take n (drop start s)) (bytes "main") (λ f. h (sym l ∙ f)))
     go false e = rw e (same_off [] (bytes "main") (λ f. omega (arith, f)))
 
+-- a test of equality, the other way round
+eqb_turned : (a b : ℕ) → eqb a b ≡ eqb b a
+eqb_turned a b = go (eqb b a) refl
+  where
+    go : (t : Bool) → eqb b a ≡ t → eqb a b ≡ t
+    go true e = eq-eqb a b (sym (eqb-true b a e))
+    go false e = ne_eqb a b (λ q. eqb-false b a e (sym q))
+
+-- the two tests of equal bytes, one of them the other way round
+turned : (a b : List ℕ) → pointwise eqb a b ≡ same b a
+unfolding same
+turned [] [] = refl
+turned [] (y ∷ ys) = refl
+turned (x ∷ xs) [] = refl
+turned (x ∷ xs) (y ∷ ys) = rw (eqb_turned x y) (ap (λ (t : Bool). eqb y x && t) (turned xs ys))
+
 module _ (s : List ℕ) (start n : ℕ) where
-  pub main_length : (n ≡ 4 → ⊥) → false ≡ same (name_at s start n) (bytes "main")
-  main_length h = sym (name_off s start n h)
-
-  past : length s < start + 4 → n ≡ 4 → false ≡ same (name_at s start n) (bytes "main")
+  pub main_past : length s < start → false ≡ same (name_at s start n) (bytes "main")
   unfolding name_at same
-  past h e = rw (e, lt-leb (start + 4) (length s) h)
+  main_past h = rw (lt-leb (start + n) (length s) (omega arith))
 
-  pub main_short : n ≡ 4 → length s < 4 → false ≡ same (name_at s start n) (bytes "main")
-  main_short e h = past (omega arith) e
+  pub main_length : (n ≡ 4 → ⊥) → eqb n 4 ≡ same (name_at s start n) (bytes "main")
+  main_length h = ne_eqb _ _ h ∙ sym (name_off s start n h)
 
-  pub main_past : n ≡ 4 → 4 ≤ length s → length s - 4 < start → false ≡ same (name_at s start n) (bytes "main")
-  main_past e k h = past (omega arith) e
-
-  pub main_same : (r : Bool) → n ≡ 4 → 4 ≤ length s → start ≤ length s - 4 → r ≡ same (take (start + 4 - start) (drop start s)) (bytes "main") → r ≡ same (name_at s start n) (bytes "main")
+  -- four bytes from the place on
+  pub main_same : n ≡ 4 → (y : List ℕ) → y ≡ slice_range s start (length s) → (r : Bool) → r ≡ pointwise eqb (bytes "main") (take 4 y) → r ≡ same (name_at s start n) (bytes "main")
   unfolding name_at
-  main_same r e k h f = let m : start + 4 - start ≡ 4 = omega arith in f ∙ rw (e, m, le-leb (start + 4) (length s) (omega arith))
+  main_same e y f r g = g ∙ turned (bytes "main") (take 4 y) ∙ ap (λ (l : List ℕ). same (take 4 l) (bytes "main")) (f ∙ part_from start s) ∙ rw e (go (leb (start + 4) (length s)) refl)
+    where
+      go : (t : Bool) → leb (start + 4) (length s) ≡ t → same (take 4 (drop start s)) (bytes "main") ≡ same (bytes_in s (cond t (record { start = start; length = 4 }) (record { start = 0; length = 0 }))) (bytes "main")
+      go true k = refl
+      go false k =
+          let l : length s < start + 4 = leb-false (start + 4) (length s) k in
+          let d = length-drop start s in
+          let m = length-take 4 (drop start s) in
+          same_off (take 4 (drop start s)) (bytes "main") (λ q. omega arith) ∙ sym (same_off [] (bytes "main") (λ q. omega (arith, q)))
 
-pub ruleset main_laws = (main_length, main_short, main_past, main_same, rules)
-
--- ---- places
-
-module _ (f g : PlaceFound) where
-  pub place_first : (i : ℕ) → f ≡ At i → At i ≡ or_place f g
-  place_first i e = rw e
-
-  pub place_second : f ≡ Nothing → g ≡ or_place f g
-  place_second e = rw e
-
-  -- main's end where it began before
-  pub end_found : (i : ℕ) (end r : PlaceFound) → f ≡ At i → r ≡ or_place end g → r ≡ joined_end f end g Nothing
-  end_found i end r e h = rw e h
-
-pub ruleset place_laws = (place_first, place_second, end_found, rules)
+pub ruleset main_laws = (main_past, main_length, main_same, rules)
 
 -- ---- the sums with one row more
 
-module _ {a b c d e f a' b' c' d' e' f' : ℕ} {x y z x' y' z' : PlaceFound} where
+module _ {a b c d e f a' b' c' d' e' f' : ℕ} {x y z x' y' z' : Option ℕ} where
   same_tally : a ≡ a' → b ≡ b' → c ≡ c' → d ≡ d' → e ≡ e' → f ≡ f' → x ≡ x' → y ≡ y' → z ≡ z'
       → ◌≡◌ {A = Tally}
       (record { rows = a; labels = b; instructions = c; mains = d; counted = e; words = f; call = x; main = y; end = z })
@@ -114,14 +120,14 @@ module _ (t : Tally) (n : ℕ) (w : Small t n) where
   more_label =
       same_tally refl refl (omega arith) (omega arith) (omega arith) (omega arith) (sym (or_nothing t.call)) (sym (or_nothing t.main)) (sym w.settled)
 
-  module _ (start : ℕ) (x y : PlaceFound) (e : x ≡ or_place t.call (At start)) (f : y ≡ joined_end t.main t.end (At start) Nothing) where
+  module _ (start : ℕ) (x y : Option ℕ) (e : x ≡ or_place t.call (Some start)) (f : y ≡ joined_end t.main t.end (Some start) None) where
     -- a call label more
     pub more_call : record { rows = t.rows + 1; labels = t.labels + 1; instructions = t.instructions; mains = t.mains; counted = t.counted; words = t.words; call = x; main = t.main; end = y }
         ≡ joined t (call_tally false start)
     more_call = same_tally refl refl (omega arith) (omega arith) (omega arith) (omega arith) e (sym (or_nothing t.main)) f
 
     -- a call label main more
-    pub more_main : (z : PlaceFound) → z ≡ or_place t.main (At start)
+    pub more_main : (z : Option ℕ) → z ≡ or_place t.main (Some start)
         → record { rows = t.rows + 1; labels = t.labels + 1; instructions = t.instructions; mains = t.mains + 1; counted = t.counted; words = t.words; call = x; main = z; end = y }
         ≡ joined t (call_tally true start)
     more_main z g = same_tally refl refl (omega arith) refl (omega arith) (omega arith) e g f
@@ -154,16 +160,12 @@ module _ (t : Tally) (s : List ℕ) (row : AsmRow) (r : Tally) where
   unfolding count_rows instructions total first_call main_start main_end
   row_prophet start n e f = rw e f
 
-  module _ (start n : ℕ) (b : Bool) (e : row ≡ LabelCall start n) (h : b ≡ same (name_at s start n) (bytes "main")) where
-    call_tally_lem : (u : Bool) → b ≡ u → r ≡ joined t (call_tally u start) → r ≡ joined t (tally_of s (row ∷ []))
-    unfolding count_rows instructions total first_call main_start main_end
-    call_tally_lem true k f = rw (e, sym h, k) f
-    call_tally_lem false k f = rw (e, sym h, k) f
+  pub row_call : (start n : ℕ) → row ≡ LabelCall start n → (b : Bool) → b ≡ same (name_at s start n) (bytes "main") → r ≡ joined t (call_tally b start) → r ≡ joined t (tally_of s (row ∷ []))
+  unfolding count_rows instructions total first_call main_start main_end
+  row_call start n e b h f = go b refl f
+    where
+      go : (u : Bool) → b ≡ u → r ≡ joined t (call_tally b start) → r ≡ joined t (tally_of s (row ∷ []))
+      go true k g = rw (e, sym h, k) (g ∙ rw k)
+      go false k g = rw (e, sym h, k) (g ∙ rw k)
 
-    pub row_main : b ≡ true → r ≡ joined t (call_tally true start) → r ≡ joined t (tally_of s (row ∷ []))
-    row_main k f = call_tally_lem true k f
-
-    pub row_call : b ≡ false → r ≡ joined t (call_tally false start) → r ≡ joined t (tally_of s (row ∷ []))
-    row_call k f = call_tally_lem false k f
-
-pub ruleset row_laws = (row_instruction, row_jmp, row_prophet, row_main, row_call, rules)
+pub ruleset row_laws = (row_instruction, row_jmp, row_prophet, row_call, rules)

@@ -1,4 +1,5 @@
 -- The walk over the lines: what is left of the survey after each line, and that the sums stay small.
+use Rattle.std.specs.Prelude.{None, Ok, Err}
 use Prim.Native.Nat.{ℕ, ◌+◌, ◌-◌, ◌^◌, ◌<◌, ◌≤◌}
 use mathlib.Core.Path.{◌≡◌, refl, sym, ap, subst, ◌∙◌}
 use mathlib.Core.List.{List, [], ◌∷◌}
@@ -20,8 +21,6 @@ use Rattle.asm.specs.declared.AsmRow.TheVariants.{Instruction, LabelCall, LabelJ
 use Rattle.asm.specs.declared.LineRead.TheVariants.{Blank, Row, Unreadable as NoRow}
 use Rattle.asm.specs.declared.RowAt.{RowAt}
 use Rattle.asm.specs.declared.RowCount.{RowCount}
-use Rattle.asm.specs.declared.PlaceFound.TheVariants.{Nothing}
-use Rattle.asm.specs.declared.Surveyed.TheVariants.{Is, Unreadable}
 use Rattle.asm.specs.declared.Tally.{Tally}
 use Rattle.asm_laws.proofs.JoinLaws.{joined_settled, joined_surveys_assoc, none_joined_surveys, joined_surveys_none, tally_settled}
 use Rattle.asm_laws.proofs.StepLaws.{survey_end, survey_blank, survey_row, survey_unreadable, next_further, instruction_room}
@@ -32,7 +31,7 @@ use Rattle.asm_survey.proofs.Laws.{counted_le}
 
 -- no sums
 abbrev no_tally : Tally
-no_tally = record { rows = 0; labels = 0; instructions = 0; mains = 0; counted = 0; words = 0; call = Nothing; main = Nothing; end = Nothing }
+no_tally = record { rows = 0; labels = 0; instructions = 0; mains = 0; counted = 0; words = 0; call = None; main = None; end = None }
 
 pub walk_start : (s : List ℕ) → survey_of s ≡ joined_surveys (ok no_tally) (survey_from s 0)
 unfolding count_rows instructions total first_call main_start main_end
@@ -138,14 +137,14 @@ module _ (s : List ℕ) (t : Tally) (i : ℕ) (line : RowAt) (e : line ≡ row_a
         ∙ sym (joined_surveys_assoc t (tally_of s (r ∷ [])) (survey_from s (next_line s i)))
         ∙ rw (g, next_is)
 
-    pub walk_unreadable : (rows : RowCount) → line.read ≡ NoRow → rows ≡ record { 0 = t.rows } → survey_numbered (Unreadable rows) ≡ survey_of s
+    pub walk_unreadable : (rows : RowCount) → line.read ≡ NoRow → rows ≡ record { 0 = t.rows } → survey_numbered (Err rows) ≡ survey_of s
     unfolding joined_surveys
     walk_unreadable rows f g =
         ap (λ (x : RowCount). refused 3 x.0) g
         ∙ sym (k ∙ ap (joined_surveys (ok t)) (survey_unreadable s i (sym read_is ∙ f)) ∙ ap (refused 3) (add-zero t.rows))
 
 -- the walk's end
-pub walk_end : (s : List ℕ) (t : Tally) (i : ℕ) → length s ≤ i → Small t i → survey_of s ≡ joined_surveys (ok t) (survey_from s i) → survey_numbered (Is t) ≡ survey_of s
+pub walk_end : (s : List ℕ) (t : Tally) (i : ℕ) → length s ≤ i → Small t i → survey_of s ≡ joined_surveys (ok t) (survey_from s i) → survey_numbered (Ok t) ≡ survey_of s
 walk_end s t i h w k = sym (k ∙ ap (joined_surveys (ok t)) (survey_end s i h) ∙ joined_surveys_none s t w.settled)
 
 -- what the sums with one row more ask for

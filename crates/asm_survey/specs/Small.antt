@@ -1,7 +1,6 @@
 -- Sums that are at most n, and of one call label.
-use Rattle.std.specs.Prelude.{ℕ, ◌≤◌, ◌≡◌, Bool, cond}
+use Rattle.std.specs.Prelude.{ℕ, ◌≤◌, ◌≡◌, Bool, cond, Some, None}
 use Rattle.asm.specs.Survey.{joined_end}
-use Rattle.asm.specs.declared.PlaceFound.TheVariants.{At, Nothing}
 use Rattle.asm.specs.declared.Tally.{Tally}
 
 -- each sum is at most n, and main has an end only where it has a beginning
@@ -12,7 +11,7 @@ pub record Small (t : Tally) (n : ℕ) : Type 0 where
   pub mains : t.mains ≤ n
   pub counted : t.counted ≤ n
   pub words : t.words ≤ n
-  pub settled : joined_end t.main t.end Nothing Nothing ≡ t.end
+  pub settled : joined_end t.main t.end None None ≡ t.end
 
 -- the sums of one call label
 abbrev pub call_tally : Bool → ℕ → Tally
@@ -23,7 +22,7 @@ call_tally is_main start = record {
   mains = cond is_main 1 0;
   counted = 0;
   words = 0;
-  call = At start;
-  main = cond is_main (At start) Nothing;
-  end = Nothing;
+  call = Some start;
+  main = cond is_main (Some start) None;
+  end = None;
 }

@@ -24,7 +24,7 @@ fn third_entry(source: &[u8], prophets: &[u8], words: &mut [u64], hosts: &mut [u
         address: WordAddress(0),
     };
     let mut table = [blank; 4];
-    encoder_entries::assemble(source, prophets, &mut table, words, hosts);
+    let _ = encoder_entries::assemble(source, prophets, &mut table, words, hosts);
     table[2]
 }
 
@@ -33,7 +33,5 @@ fn main(rt: HostRuntime) -> io::Result<()> {
     let mut hosts = [0u64; 2];
     let entry = third_entry(&SOURCE, &PROPHETS, &mut words, &mut hosts);
     rt.write_all(relocate_names::label_name(&SOURCE, entry))?;
-    rt.write_all(b" ")?;
-    let address = entry.address;
-    rt.println(address.0)
+    println!(rt; " {}", entry.address.0)
 }

@@ -4,15 +4,16 @@
 ghost use Rattle.std.specs.Prelude.{◌≡◌};
 ghost use Rattle.calls_opened.specs.Answers.{answers_form, answers_of};
 
-use decoder::{Found, NextRefusal, Opening};
+use decoder::{NextRefusal, OpenRefusal};
+use program::BinaryInstruction;
 use std::io;
 
 // What opening a text and two calls of next answer.
 #[derive(Clone, Copy)]
 pub struct Answers {
-    pub opening: Opening,
-    pub first: Found,
-    pub second: Found,
+    pub opening: Result<(), OpenRefusal>,
+    pub first: Result<BinaryInstruction, NextRefusal>,
+    pub second: Result<BinaryInstruction, NextRefusal>,
 }
 
 // Opens a text and calls next twice: each call gets the reader that the last one returned.
@@ -30,35 +31,28 @@ fn two_calls(text: &[u8]) -> Answers
 }
 
 // One line for what opening answered.
-fn print_opening(rt: &impl Print, opening: Opening) -> io::Result<()> {
+fn print_opening(rt: &impl Print, opening: Result<(), OpenRefusal>) -> io::Result<()> {
     match opening {
-        Opening::Accepted => rt.write_all(b"opened\n"),
-        Opening::Refused(refusal) => rt.write_all(b"refused\n"),
-    }
-}
-
-// One line for why there is no instruction.
-fn print_refusal(rt: &impl Print, refusal: NextRefusal) -> io::Result<()> {
-    match refusal {
-        NextRefusal::Open(why) => rt.write_all(b"refused\n"),
-        NextRefusal::NoneLeft => rt.write_all(b"none left\n"),
+        Ok(()) => println!(rt; "opened"),
+        Err(_) => println!(rt; "refused"),
     }
 }
 
 // One line for what a call answered.
-fn print_found(rt: &impl Print, found: Found) -> io::Result<()> {
+fn print_found(rt: &impl Print, found: Result<BinaryInstruction, NextRefusal>) -> io::Result<()> {
     match found {
-        Found::Is(instruction) => rt.write_all(b"an instruction\n"),
-        Found::Refused(refusal) => print_refusal(rt, refusal),
+        Ok(_) => println!(rt; "an instruction"),
+        Err(NextRefusal::Open(_)) => println!(rt; "refused"),
+        Err(NextRefusal::NoneLeft) => println!(rt; "none left"),
     }
 }
 
 fn main(rt: HostRuntime) -> io::Result<()> {
-    let text = *b"0x4000000001000000\n10";
-    let answers = two_calls(&text);
-    let opening = answers.opening;
-    let first = answers.first;
-    let second = answers.second;
+    let Answers {
+        opening,
+        first,
+        second,
+    } = two_calls(b"0x4000000001000000\n10");
     print_opening(&rt, opening)?;
     print_found(&rt, first)?;
     print_found(&rt, second)

@@ -2,12 +2,8 @@
 // its printing source. The README shows these calls.
 #![tactic(auto)]
 
-use decoder::{Found, Opening};
-use program::{BinaryInstruction, SecondWord};
-use program_bytecode::Written;
-use program_encode::Encoding;
-use program_listing::RowWritten;
-use source::SourceWritten;
+use decoder::NextRefusal;
+use program::{BinaryInstruction, InstructionWords};
 use std::io;
 use vm_opcodes::OlaOpcode;
 use vm_operands::{ImmediateValue, OlaOperand};
@@ -21,104 +17,70 @@ const WORDS: [u64; 6] = [
     0x0000000000800000,
 ];
 
-// The first n bytes of a text, and a line feed.
-fn print_text(rt: &impl Print, text: &[u8], n: usize) -> io::Result<()> {
-    if text.len() < n {
+// What a writer put at the start of a text, and a line feed.
+fn print_written<E: Drop>(
+    rt: &impl Print,
+    text: &[u8],
+    written: Result<usize, E>,
+) -> io::Result<()> {
+    let Some(bytes) = written.ok().and_then(|n| text.get(..n)) else {
         return Ok(());
-    }
-    rt.write_all(&text[..n])?;
+    };
+    rt.write_all(bytes)?;
     rt.write_all(b"\n")
 }
 
-// The listing row of an instruction.
-fn print_row(rt: &impl Print, instruction: BinaryInstruction) -> io::Result<()> {
+// What a call of next found: the listing row of an instruction.
+fn print_found(rt: &impl Print, found: Result<BinaryInstruction, NextRefusal>) -> io::Result<()> {
+    let Ok(instruction) = found else {
+        return println!(rt; "none left");
+    };
     let mut row = [0u8; 128];
-    match program_listing::get_asm_form_code(instruction, &mut row) {
-        RowWritten::Is(n) => print_text(rt, &row, n),
-        RowWritten::Refused(refusal) => Ok(()),
-    }
-}
-
-// What a call of next found.
-fn print_found(rt: &impl Print, found: Found) -> io::Result<()> {
-    match found {
-        Found::Is(instruction) => print_row(rt, instruction),
-        Found::Refused(refusal) => rt.write_all(b"none left\n"),
-    }
-}
-
-// Writes the bytecode of the words, and says how many bytes it has.
-fn show_writing(rt: &impl Print, text: &mut [u8]) -> io::Result<usize> {
-    match program_bytecode::write_bytecode(&WORDS, text) {
-        Written::Is(n) => {
-            print_text(rt, text, n)?;
-            Ok(n)
-        }
-        Written::Refused(refusal) => Ok(0),
-    }
+    let written = program_listing::get_asm_form_code(instruction, &mut row);
+    print_written(rt, &row, written)
 }
 
 // Source from a bytecode.
 fn show_source(rt: &impl Print, bytecode: &[u8]) -> io::Result<()> {
     let mut source = [0u8; 128];
-    match source_write::write_source(bytecode, &mut source) {
-        SourceWritten::Is(n) => print_text(rt, &source, n),
-        SourceWritten::Refused(refusal) => Ok(()),
-    }
+    let written = source_write::write_source(bytecode, &mut source);
+    print_written(rt, &source, written)
 }
 
 // Opens a bytecode, reads it by lines, by offsets and by number, and writes source from it.
 fn show_reading(rt: &impl Print, text: &[u8]) -> io::Result<()> {
     match decoder_open::open_text(text) {
-        Opening::Accepted => rt.write_all(b"opens\n")?,
-        Opening::Refused(refusal) => rt.write_all(b"does not open\n")?,
+        Ok(()) => println!(rt; "opens")?,
+        Err(_) => println!(rt; "does not open")?,
     }
     let first = decoder_runs::next_line(text, 0);
-    let found = first.found;
-    print_found(rt, found)?;
-    rt.print(first.line)?;
-    rt.write_all(b" lines read\n")?;
+    print_found(rt, first.found)?;
+    println!(rt; "{} lines read", first.line)?;
     let second = decoder_next::next_at(text, 38);
-    let found = second.found;
-    print_found(rt, found)?;
-    rt.print(second.offset)?;
-    rt.write_all(b" bytes read\n")?;
+    print_found(rt, second.found)?;
+    println!(rt; "{} bytes read", second.offset)?;
     print_found(rt, decoder_runs::nth(text, 3))?;
     print_found(rt, decoder_runs::nth(text, 4))?;
     show_source(rt, text)
 }
 
-// The same over the first n bytes of a text.
-fn show_reading_of(rt: &impl Print, text: &[u8], n: usize) -> io::Result<()> {
-    if text.len() < n {
-        return Ok(());
-    }
-    show_reading(rt, &text[..n])
-}
-
 // The words of an instruction.
 fn show_encoding(rt: &impl Print, instruction: BinaryInstruction) -> io::Result<()> {
-    match program_encode::encode(instruction) {
-        Encoding::Is(words) => {
-            let first = words.first;
-            print!(rt; "{first:016x}")?;
-            let second = words.second;
-            match second {
-                SecondWord::Number(number) => {
-                    print!(rt; " {number:016x}")?;
-                }
-                SecondWord::Nothing => {}
-            }
-        }
-        Encoding::Refused(refusal) => rt.write_all(b"refused")?,
+    let Ok(InstructionWords { first, second }) = program_encode::encode(instruction) else {
+        return println!(rt; "refused");
+    };
+    match second {
+        Some(number) => println!(rt; "{first:016x} {number:016x}"),
+        None => println!(rt; "{first:016x}"),
     }
-    rt.write_all(b"\n")
 }
 
 fn main(rt: HostRuntime) -> io::Result<()> {
     let mut text = [0u8; 128];
-    let n = show_writing(&rt, &mut text)?;
-    show_reading_of(&rt, &text, n)?;
+    let written = program_bytecode::write_bytecode(&WORDS, &mut text);
+    print_written(&rt, &text, written)?;
+    let bytecode = written.ok().and_then(|n| text.get(..n)).unwrap_or(&[]);
+    show_reading(&rt, bytecode)?;
     // `call 5`
     show_encoding(
         &rt,

@@ -1,8 +1,8 @@
 -- The bytecode of a program opens to the program as it reads back.
+use Rattle.std.specs.Prelude.{None}
 use Prim.Native.Nat.{ℕ, suc, ◌+◌, ◌≤◌}
 use mathlib.Core.Path.{◌≡◌, refl, ap, ◌∙◌}
 use mathlib.Core.List.{List, [], ◌∷◌, map}
-use mathlib.Core.Option.{none}
 use borrow.Author.Tests.{le-ltb}
 use lib.ListN.{length}
 use Rattle.text.specs.Lines.{lines}
@@ -19,7 +19,7 @@ use Rattle.decoder.proofs.LineLaws.{lines_bytecode}
 use Rattle.decoder.proofs.GroupLaws.{line_group_of, Readable, groups_lines, group_complete, group_readable, group_decoded_lem}
 
 -- no refusal 15
-none_unreadable : (k : ℕ) (is : List BinaryInstruction) → All Readable is → first_unreadable k (map line_group_of is) ≡ none
+none_unreadable : (k : ℕ) (is : List BinaryInstruction) → All Readable is → first_unreadable k (map line_group_of is) ≡ None
 unfolding first_unreadable
 none_unreadable k [] c = refl
 none_unreadable k (i ∷ is) (one_more r c) = rw (group_readable i r) (none_unreadable (k + lines_in (line_group_of i)) is c)
@@ -36,7 +36,7 @@ unfolding all_decoded ◌>>=◌
 all_decoded_lem k [] c = refl
 all_decoded_lem k (i ∷ is) (one_more r c) = rw (group_decoded_lem i r k, all_decoded_lem (suc k) is c)
 
-opened_groups : (text : List ℕ) (gs : List (Group (List ℕ))) → length text ≤ max_bytecode_bytes → line_groups (lines text) ≡ gs → first_unreadable 0 gs ≡ none
+opened_groups : (text : List ℕ) (gs : List (Group (List ℕ))) → length text ≤ max_bytecode_bytes → line_groups (lines text) ≡ gs → first_unreadable 0 gs ≡ None
     → complete_of gs ≡ gs → opened text ≡ all_decoded 0 gs
 unfolding opened ◌>>◌ refuse_if refuse_at
 opened_groups text gs h e u d = rw (le-ltb max_bytecode_bytes (length text) h, e, u, d)

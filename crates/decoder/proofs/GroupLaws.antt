@@ -1,9 +1,9 @@
 -- A program's words, and the lines of its bytecode, part into its instructions.
+use Rattle.std.specs.Prelude.{Option, Some, None}
 use Prim.Native.Nat.{ℕ, ◌^◌, ◌<◌}
 use mathlib.Core.Path.{◌≡◌, refl, ap, ◌∙◌}
 use mathlib.Core.List.{List, [], ◌∷◌, ◌++◌, map}
 use mathlib.Core.Bool.{Bool, true, false}
-use mathlib.Core.Option.{Option, none, some}
 use Rattle.text.specs.Answer.{ok}
 use Rattle.text.specs.All.{All, one_more}
 use Rattle.text_write.specs.Digits.{fewest_text, sixteen_text}
@@ -19,8 +19,8 @@ use Rattle.decoder.proofs.TextLaws.{first_read}
 
 -- the line of a number, if there is one
 abbrev pub line_of : Option ℕ → Option (List ℕ)
-line_of none = none
-line_of (some v) = some (fewest_text v)
+line_of None = None
+line_of (Some v) = Some (fewest_text v)
 
 -- an instruction's words and lines
 abbrev pub word_group_of : BinaryInstruction → Group ℕ
@@ -37,19 +37,19 @@ pub record Readable (i : BinaryInstruction) : Type 0 where
 
 -- ---- one group in front
 module _ {A : Type 0} (two : A → Bool) (a : A) where
-  pub grouped_one : (as' : List A) → two a ≡ false → grouped two none (a ∷ as') ≡ record { first = a; second = none } ∷ grouped two none as'
+  pub grouped_one : (as' : List A) → two a ≡ false → grouped two None (a ∷ as') ≡ record { first = a; second = None } ∷ grouped two None as'
   unfolding grouped
   grouped_one as' h = rw h
 
-  pub grouped_two : (b : A) (as' : List A) → two a ≡ true → grouped two none (a ∷ b ∷ as') ≡ record { first = a; second = some b } ∷ grouped two none as'
+  pub grouped_two : (b : A) (as' : List A) → two a ≡ true → grouped two None (a ∷ b ∷ as') ≡ record { first = a; second = Some b } ∷ grouped two None as'
   unfolding grouped
   grouped_two b as' h = rw h
 
 -- a first word and a second, if it says that there is one
 module _ (w : ℕ) where
   words_front : (v : Option ℕ) (ws : List ℕ) → has_second w ≡ is_some v → word_groups (in_order w v ++ ws) ≡ record { first = w; second = v } ∷ word_groups ws
-  words_front none ws h = grouped_one has_second w ws h
-  words_front (some v) ws h = grouped_two has_second w v ws h
+  words_front None ws h = grouped_one has_second w ws h
+  words_front (Some v) ws h = grouped_two has_second w v ws h
 
   module _ (b : w < 2 ^ 64) where
     line_shows : line_has_second (sixteen_text w) ≡ has_second w
@@ -57,8 +57,8 @@ module _ (w : ℕ) where
 
     lines_front : (v : Option ℕ) (ls : List (List ℕ)) → has_second w ≡ is_some v
         → line_groups (group_lines (record { first = w; second = v }) ++ ls) ≡ record { first = sixteen_text w; second = line_of v } ∷ line_groups ls
-    lines_front none ls h = grouped_one line_has_second (sixteen_text w) ls (line_shows ∙ h)
-    lines_front (some v) ls h = grouped_two line_has_second (sixteen_text w) (fewest_text v) ls (line_shows ∙ h)
+    lines_front None ls h = grouped_one line_has_second (sixteen_text w) ls (line_shows ∙ h)
+    lines_front (Some v) ls h = grouped_two line_has_second (sixteen_text w) (fewest_text v) ls (line_shows ∙ h)
 
 -- ---- a program's groups
 
@@ -87,8 +87,8 @@ groups_lines is c = ap line_groups (lines_words is c) ∙ lines_parted is c
 -- ---- each group
 
 complete : (w : ℕ) (v : Option ℕ) → w < 2 ^ 64 → has_second w ≡ is_some v → is_complete (record { first = sixteen_text w; second = line_of v }) ≡ true
-complete w none b h = rw (line_shows w b ∙ h)
-complete w (some v) b h = rw (line_shows w b ∙ h)
+complete w None b h = rw (line_shows w b ∙ h)
+complete w (Some v) b h = rw (line_shows w b ∙ h)
 
 module _ (i : BinaryInstruction) (r : Readable i) where
   pub group_complete : is_complete (line_group_of i) ≡ true

@@ -1,9 +1,9 @@
 -- The lines of a bytecode are those that were joined, and how long it is.
+use Rattle.std.specs.Prelude.{Option, Some, None}
 use Prim.Native.Nat.{ℕ, suc, ◌+◌, ◌-◌, ◌*◌, ◌^◌, ◌<◌, ◌≤◌}
 use mathlib.Core.Path.{◌≡◌, refl, ap, ◌∙◌}
 use mathlib.Core.List.{List, [], ◌∷◌, ◌++◌}
 use mathlib.Core.Bool.{Bool, true, false, ◌||◌, and-eq-true_iff, cond}
-use mathlib.Core.Option.{Option, none, some}
 use native.Mathlib.Omega.{arith}
 use lib.Dec.{eqb}
 use lib.ListN.{length, get_or, length-append}
@@ -71,23 +71,23 @@ module _ (p : ℕ → Bool) (feed : p 10 ≡ false) (return : p 13 ≡ false) wh
 module _ (Q : ℕ → Type 0) (P : List ℕ → Type 0) (first : (w : ℕ) → Q w → P (sixteen_text w)) (second : (v : ℕ) → Q v → P (fewest_text v)) where
   -- of a first that waits for its second
   abbrev Waiting : Option ℕ → Type 0
-  Waiting none = Unit {0}
-  Waiting (some a) = Q a
+  Waiting None = Unit {0}
+  Waiting (Some a) = Q a
 
   lines_from : (o : Option ℕ) (ws : List ℕ) → Waiting o → All Q ws → All P (lines_of_groups (grouped has_second o ws))
   unfolding lines_of_groups grouped
-  lines_from none [] q c = none_left
-  lines_from (some a) [] q c = one_more (first a q) none_left
-  lines_from (some a) (b ∷ bs) q (one_more r c) = one_more (first a q) (one_more (second b r) (lines_from none bs tt c))
-  lines_from none (a ∷ as') q (one_more r c) = go (has_second a) (lines_from (some a) as' r c) (lines_from none as' tt c)
+  lines_from None [] q c = none_left
+  lines_from (Some a) [] q c = one_more (first a q) none_left
+  lines_from (Some a) (b ∷ bs) q (one_more r c) = one_more (first a q) (one_more (second b r) (lines_from None bs tt c))
+  lines_from None (a ∷ as') q (one_more r c) = go (has_second a) (lines_from (Some a) as' r c) (lines_from None as' tt c)
     where
-      go : (t : Bool) → All P (lines_of_groups (grouped has_second (some a) as')) → All P (lines_of_groups (grouped has_second none as'))
-          → All P (lines_of_groups (let rest = grouped has_second (cond t (some a) none) as' in cond t rest (record { first = a; second = none } ∷ rest)))
+      go : (t : Bool) → All P (lines_of_groups (grouped has_second (Some a) as')) → All P (lines_of_groups (grouped has_second None as'))
+          → All P (lines_of_groups (let rest = grouped has_second (cond t (Some a) None) as' in cond t rest (record { first = a; second = None } ∷ rest)))
       go true x y = x
       go false x y = one_more (first a r) y
 
   lines_hold : (ws : List ℕ) → All Q ws → All P (word_lines ws)
-  lines_hold ws c = lines_from none ws tt c
+  lines_hold ws c = lines_from None ws tt c
 
 -- what holds of any entry
 any : {A : Type 0} (P : A → Type 0) → ((x : A) → P x) → (xs : List A) → All P xs
@@ -130,24 +130,24 @@ joined_most (l ∷ m ∷ ls) (one_more h c) =
     omega arith
 
 abbrev counted : Option ℕ → ℕ
-counted none = 0
-counted (some a) = 1
+counted None = 0
+counted (Some a) = 1
 
 lines_count_from : (o : Option ℕ) (ws : List ℕ) → length (lines_of_groups (grouped has_second o ws)) ≡ counted o + length ws
 unfolding lines_of_groups grouped
-lines_count_from none [] = refl
-lines_count_from (some a) [] = refl
-lines_count_from (some a) (b ∷ bs) = let h = lines_count_from none bs in omega arith
-lines_count_from none (a ∷ as') = go (has_second a) (lines_count_from (some a) as') (lines_count_from none as')
+lines_count_from None [] = refl
+lines_count_from (Some a) [] = refl
+lines_count_from (Some a) (b ∷ bs) = let h = lines_count_from None bs in omega arith
+lines_count_from None (a ∷ as') = go (has_second a) (lines_count_from (Some a) as') (lines_count_from None as')
   where
-    go : (t : Bool) → length (lines_of_groups (grouped has_second (some a) as')) ≡ 1 + length as' → length (lines_of_groups (grouped has_second none as')) ≡ 0 + length as'
-        → length (lines_of_groups (let rest = grouped has_second (cond t (some a) none) as' in cond t rest (record { first = a; second = none } ∷ rest))) ≡ 0 + suc (length as')
+    go : (t : Bool) → length (lines_of_groups (grouped has_second (Some a) as')) ≡ 1 + length as' → length (lines_of_groups (grouped has_second None as')) ≡ 0 + length as'
+        → length (lines_of_groups (let rest = grouped has_second (cond t (Some a) None) as' in cond t rest (record { first = a; second = None } ∷ rest))) ≡ 0 + suc (length as')
     go true x y = omega arith
     go false x y = omega arith
 
 -- as many lines as words
 pub lines_count : (ws : List ℕ) → length (word_lines ws) ≡ length ws
-lines_count ws = lines_count_from none ws ∙ omega arith
+lines_count ws = lines_count_from None ws ∙ omega arith
 
 -- A bytecode has at most 19 bytes for a word.
 pub bytecode_length : (ws : List ℕ) → All (λ w. w < 2 ^ 64) ws → length (bytecode_of ws) ≤ 19 * length ws

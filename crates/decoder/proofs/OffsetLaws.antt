@@ -1,9 +1,9 @@
 -- A run by offsets is the run by lines: where a line starts, what is read from there, and a run of calls.
+use Rattle.std.specs.Prelude.{Some, None}
 use Prim.Native.Nat.{ℕ, zero, suc, ◌+◌, ◌<◌, ◌≤◌}
 use mathlib.Core.Path.{◌≡◌, refl, sym, ap, subst, ◌∙◌}
 use mathlib.Core.List.{List, [], ◌∷◌, map}
 use mathlib.Core.Bool.{Bool, true, false, cond}
-use mathlib.Core.Option.{none, some}
 use native.Mathlib.Omega.{arith}
 use native.Mathlib.Nat.{zero-add, add-zero, suc-add}
 use borrow.Author.Tests.{ltb-true, ltb-false, le-ltb}
@@ -115,7 +115,7 @@ first_lines (l ∷ ls) = go (line_has_second l) ls
   where
     go : (t : Bool) (ms : List (List ℕ))
         → FirstLines (suc (length ms))
-        (let rest = grouped line_has_second (cond t (some l) none) ms in cond t rest (record { first = l; second = none } ∷ rest))
+        (let rest = grouped line_has_second (cond t (Some l) None) ms in cond t rest (record { first = l; second = None } ∷ rest))
     go true [] = omega arith
     go true (m ∷ ms) = omega arith
     go false ms = omega arith

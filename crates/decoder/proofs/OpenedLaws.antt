@@ -1,9 +1,9 @@
 -- Any text that opens: the form of the instructions read from it, and that a run of calls reads them one after the other.
+use Rattle.std.specs.Prelude.{Some, None}
 use Prim.Native.Nat.{ℕ, zero, suc, ◌+◌, ◌-◌}
 use mathlib.Core.Path.{◌≡◌, refl, sym, ap, subst, ◌∙◌}
 use mathlib.Core.List.{List, [], ◌∷◌, ◌++◌, map}
 use mathlib.Core.Bool.{Bool, true, false, cond}
-use mathlib.Core.Option.{none, some}
 use native.Mathlib.Nat.{zero-sub, sub-zero, suc-sub-suc}
 use lib.Dec.{ltb}
 use lib.ListN.{length, take, drop, replicate}
@@ -77,9 +77,9 @@ ahead [] = none_complete refl (λ line. refl)
 ahead (l ∷ ls) = go (line_has_second l) refl ls
   where
     go : (t : Bool) → line_has_second l ≡ t → (ms : List (List ℕ)) → Ahead (l ∷ ms)
-    go false e ms = one_complete (record { first = l; second = none }) (rw e) (grouped_one line_has_second l ms e)
+    go false e ms = one_complete (record { first = l; second = None }) (rw e) (grouped_one line_has_second l ms e)
     go true e [] = none_complete (rw (e, e)) (λ line. rw (e, e))
-    go true e (m ∷ ms) = one_complete (record { first = l; second = some m }) (rw e) (grouped_two line_has_second l m ms e)
+    go true e (m ∷ ms) = one_complete (record { first = l; second = Some m }) (rw e) (grouped_two line_has_second l m ms e)
 
 -- the answers of k calls where these instructions are left
 abbrev answers : ℕ → List BinaryInstruction → List (Answer BinaryInstruction)

@@ -1,36 +1,32 @@
 -- "Bytecode": what its lines say.
-use Rattle.std.specs.Prelude.{ℕ, ◌+◌, ◌^◌, List, [], ◌∷◌, Bool, true, false, not, ◌&&◌, ◌||◌, cond, eqb, get_or}
-use Rattle.std.proofs.Math.Option.{Option, none, some}
+use Rattle.std.specs.Prelude.{ℕ, ◌+◌, ◌^◌, List, [], ◌∷◌, Bool, true, false, not, ◌&&◌, ◌||◌, cond, eqb, get_or, Option, Some, None}
 use Rattle.text_read.specs.Numerals.{hexadecimal}
-use Rattle.text_read.specs.declared.Numeral.{Numeral}
-use Rattle.text_read.specs.declared.Numeral.TheVariants.{Value, Nothing as NoNumeral}
 use Rattle.vm_operands.specs.Numbers.{order, immediate, number_of}
-use Rattle.vm_operands.specs.declared.ImmediateFound.{ImmediateFound}
-use Rattle.vm_operands.specs.declared.ImmediateFound.TheVariants.{Is, Nothing}
 use Rattle.program.specs.Groups.{Group, grouped, has_second}
+use Rattle.vm_operands.specs.declared.ImmediateValue.{ImmediateValue}
 
 -- "A first word may lack `0x`, and repeated `0x` is dropped; it is hexadecimal"
-abbrev pub first_of_line : List ℕ → Numeral
+abbrev pub first_of_line : List ℕ → Option ℕ
 first_of_line l = hexadecimal (2 ^ 64) l
 
 abbrev pub has_prefix : List ℕ → Bool
 has_prefix l = eqb (get_or l 0 0) 48 && eqb (get_or l 1 0) 120
 
-abbrev pub number_found : Numeral → ImmediateFound
-number_found (Value v) = Is (immediate v)
-number_found NoNumeral = Nothing
+abbrev pub number_found : Option ℕ → Option ImmediateValue
+number_found (Some v) = Some (immediate v)
+number_found None = None
 
 -- "A second line is hexadecimal only with `0x`, once or repeated, otherwise decimal"; "no number below p in size" is none
-abbrev pub second_of_line : List ℕ → ImmediateFound
+abbrev pub second_of_line : List ℕ → Option ImmediateValue
 second_of_line l = cond (has_prefix l) (number_found (hexadecimal order l)) (number_of l)
 
-abbrev pub is_readable : Numeral → Bool
-is_readable (Value w) = true
-is_readable NoNumeral = false
+abbrev pub is_readable : Option ℕ → Bool
+is_readable (Some w) = true
+is_readable None = false
 
-abbrev pub word_has_second : Numeral → Bool
-word_has_second (Value w) = has_second w
-word_has_second NoNumeral = false
+abbrev pub word_has_second : Option ℕ → Bool
+word_has_second (Some w) = has_second w
+word_has_second None = false
 
 -- a line after which a second one belongs to the same instruction
 abbrev pub line_has_second : List ℕ → Bool
@@ -38,11 +34,11 @@ line_has_second l = word_has_second (first_of_line l)
 
 -- the instructions of lines, parted as the writer parts words
 abbrev pub line_groups : List (List ℕ) → List (Group (List ℕ))
-line_groups ls = grouped line_has_second none ls
+line_groups ls = grouped line_has_second None ls
 
 abbrev pub is_here : Option (List ℕ) → Bool
-is_here none = false
-is_here (some l) = true
+is_here None = false
+is_here (Some l) = true
 
 -- "A last first word that lacks its second line is dropped"
 abbrev pub is_complete : Group (List ℕ) → Bool
@@ -57,5 +53,5 @@ lines_in g = cond (is_here g.second) 2 1
 
 -- 15: "a first word that is no 64-bit hexadecimal number (line index from 0), tested over the whole text"; the groups start at line k
 unfoldable pub first_unreadable : ℕ → List (Group (List ℕ)) → Option ℕ
-first_unreadable k [] = none
-first_unreadable k (g ∷ gs) = let later = first_unreadable (k + lines_in g) gs in cond (is_readable (first_of_line g.first)) later (some k)
+first_unreadable k [] = None
+first_unreadable k (g ∷ gs) = let later = first_unreadable (k + lines_in g) gs in cond (is_readable (first_of_line g.first)) later (Some k)

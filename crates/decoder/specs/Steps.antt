@@ -1,15 +1,13 @@
 -- What the reader's functions answer: opening, a call of next on a line or on an offset, a run by offsets, and one call of a run.
-use Rattle.std.specs.Prelude.{ℕ, zero, suc, ◌+◌, List, [], ◌∷◌, ltb, length, drop, get_or}
+use Rattle.std.specs.Prelude.{ℕ, zero, suc, ◌+◌, List, [], ◌∷◌, ltb, length, drop, get_or, Result, Ok, Err, ⊤}
 use Rattle.text.specs.Lines.{line_next}
 use Rattle.text.specs.Answer.{Answer, ok, refused, ◌>>=◌, ◌>>◌, refuse_if}
 use Rattle.program.specs.declared.BinaryInstruction.{BinaryInstruction}
 use Rattle.decoder.specs.Open.{open_number, open_detail, max_bytecode_bytes, next_number, next_detail, next, instruction_read, line_after, run}
-use Rattle.decoder.specs.declared.Opening.{Opening}
-use Rattle.decoder.specs.declared.Opening.TheVariants.{Accepted, Refused as OpenRefused}
-use Rattle.decoder.specs.declared.Found.{Found}
-use Rattle.decoder.specs.declared.Found.TheVariants.{Is, Refused}
 use Rattle.decoder.specs.declared.LineStep.{LineStep}
 use Rattle.decoder.specs.declared.StepAt.{StepAt}
+use Rattle.decoder.specs.declared.NextRefusal.{NextRefusal}
+use Rattle.decoder.specs.declared.OpenRefusal.{OpenRefusal}
 
 -- ---- opening
 
@@ -19,15 +17,15 @@ accepted_of (ok is) = ok tt
 accepted_of (refused n d) = refused n d
 
 -- an answer by its number and detail
-abbrev pub open_numbered : Opening → Answer (Unit {0})
-open_numbered Accepted = ok tt
-open_numbered (OpenRefused refusal) = refused (open_number refusal) (open_detail refusal)
+abbrev pub open_numbered : Result ⊤ OpenRefusal → Answer (Unit {0})
+open_numbered (Ok tt) = ok tt
+open_numbered (Err refusal) = refused (open_number refusal) (open_detail refusal)
 
 -- ---- one call
 
-abbrev pub found_numbered : Found → Answer BinaryInstruction
-found_numbered (Is i) = ok i
-found_numbered (Refused refusal) = refused (next_number refusal) (next_detail refusal)
+abbrev pub found_numbered : Result BinaryInstruction NextRefusal → Answer BinaryInstruction
+found_numbered (Ok i) = ok i
+found_numbered (Err refusal) = refused (next_number refusal) (next_detail refusal)
 
 -- what a call answers, and the line of the reader that it returns
 pub record Stepped : Type 0 where

@@ -31,31 +31,17 @@ pub enum NextRefusal {
     NoneLeft,
 }
 
-// Whether a bytecode opens.
-#[derive(Clone, Copy)]
-pub enum Opening {
-    Accepted,
-    Refused(OpenRefusal),
-}
-
-// What asking for the next instruction finds.
-#[derive(Clone, Copy)]
-pub enum Found {
-    Is(BinaryInstruction),
-    Refused(NextRefusal),
-}
-
 // What a call of next on a text and a line answers, and the line reached: the same line after a refusal.
 #[derive(Clone, Copy)]
 pub struct LineStep {
-    pub found: Found,
+    pub found: Result<BinaryInstruction, NextRefusal>,
     pub line: usize,
 }
 
 // What a call of next on a text and an offset answers: how many lines were read, none after a refusal, and the offset of the line after them.
 #[derive(Clone, Copy)]
 pub struct StepAt {
-    pub found: Found,
+    pub found: Result<BinaryInstruction, NextRefusal>,
     pub lines: usize,
     pub offset: usize,
 }

@@ -4,7 +4,8 @@
 ghost use Rattle.std.specs.Prelude.{◌≡◌};
 ghost use Rattle.decoder_bytecode.specs.Forms.{open_form, open_of, step_form, step_of};
 
-use decoder::{Found, Opening};
+use decoder::{NextRefusal, OpenRefusal};
+use program::BinaryInstruction;
 
 // An opened bytecode: the caller's text and the line reached.
 #[derive(Clone, Copy)]
@@ -13,17 +14,17 @@ pub struct Bytecode<'a> {
     pub line: usize,
 }
 
-// Whether a text opened, and the reader at its first line.
+// Whether a text opened, and the reader at its first line. The reader stands beside the Result, since `open_of` promises it on a refusal too.
 #[derive(Clone, Copy)]
 pub struct Opened<'a> {
-    pub opening: Opening,
+    pub opening: Result<(), OpenRefusal>,
     pub bytecode: Bytecode<'a>,
 }
 
-// What a call found, and the reader: the same one after a refusal.
+// What a call found, and the reader: the same one after a refusal, as `step_of` promises.
 #[derive(Clone, Copy)]
 pub struct Step<'a> {
-    pub found: Found,
+    pub found: Result<BinaryInstruction, NextRefusal>,
     pub bytecode: Bytecode<'a>,
 }
 
@@ -32,9 +33,8 @@ pub struct Step<'a> {
 pub fn open<'a>(text: &'a [u8]) -> Opened<'a>
     ensures { open_form result ≡ open_of text.entry }
 {
-    let opening = decoder_open::open_text(text);
     Opened {
-        opening,
+        opening: decoder_open::open_text(text),
         bytecode: Bytecode { text, line: 0 },
     }
 }
@@ -48,8 +48,8 @@ pub fn next<'a>(bytecode: Bytecode<'a>) -> Step<'a>
     Step {
         found: step.found,
         bytecode: Bytecode {
-            text: bytecode.text,
             line: step.line,
+            ..bytecode
         },
     }
 }

@@ -1,4 +1,5 @@
 -- Laws of the functions that find what stands from an offset on, one for each way out.
+use Rattle.std.specs.Prelude.{Option, Some, None}
 use Prim.Native.Nat.{ℕ, ◌+◌, ◌-◌, ◌^◌, ◌<◌, ◌≤◌}
 use mathlib.Core.Path.{◌≡◌, sym, ap, ◌∙◌}
 use mathlib.Core.List.{List}
@@ -14,8 +15,6 @@ use Rattle.text.specs.declared.Line.{Line}
 use Rattle.text.proofs.Laws.{part_from, part_counts}
 use Rattle.text.proofs.PartLaws.{line_within}
 use Rattle.text_read.specs.Numerals.{hexadecimal}
-use Rattle.text_read.specs.declared.Numeral.{Numeral}
-use Rattle.text_read.specs.declared.Numeral.TheVariants.{Value, Nothing as NoNumeral}
 use Rattle.program.specs.Groups.{has_second}
 use Rattle.program_bytecode.specs.Left.{asks_number}
 use Rattle.decoder_lines.specs.GroupAt.{group_of, group_on, group_at}
@@ -71,7 +70,7 @@ unfolding group_at
 at_past text at h = rw (le-ltb at (length text) h)
 
 -- a first line as the writer has it
-module _ (text : List ℕ) (at : ℕ) (h : at < length text) (m : Numeral) (e : m ≡ word_line (take (length text - at) (drop at text))) (w : ℕ) (f : m ≡ Value w) where
+module _ (text : List ℕ) (at : ℕ) (h : at < length text) (m : Option ℕ) (e : m ≡ word_line (take (length text - at) (drop at text))) (w : ℕ) (f : m ≡ Some w) where
   line_said : Said (drop at text) w
   line_said = said (drop at text) w (ap word_line (sym (part_from at text)) ∙ sym e ∙ f)
 
@@ -96,17 +95,17 @@ module _ (text : List ℕ) (at : ℕ) (h : at < length text) (line : Line) (e : 
   pub start_fits : length text < 2 ^ 64 → Fits w64 (at + line.next)
   start_fits f = let w = next_starts in omega arith
 
-  module _ (m : Numeral) (f : m ≡ hexadecimal (2 ^ 64) (take line.length (take (length text - at) (drop at text)))) where
+  module _ (m : Option ℕ) (f : m ≡ hexadecimal (2 ^ 64) (take line.length (take (length text - at) (drop at text)))) where
     -- what the first word says decides
     at_word : group_at text at ≡ group_on text (at + line.next) m
     unfolding group_at
     at_word = rw (lt-ltb at (length text) h, f, part_from at text, length_is text at line e, next_is text at line e)
 
-    pub at_unreadable : m ≡ NoNumeral → Unreadable ≡ group_at text at
+    pub at_unreadable : m ≡ None → Unreadable ≡ group_at text at
     unfolding group_on
     at_unreadable g = sym (at_word ∙ rw g)
 
-    pub at_group : (w : ℕ) → m ≡ Value w → (r : GroupAt) → r ≡ group_of text w (at + line.next) → r ≡ group_at text at
+    pub at_group : (w : ℕ) → m ≡ Some w → (r : GroupAt) → r ≡ group_of text w (at + line.next) → r ≡ group_at text at
     unfolding group_on
     at_group w g r k = k ∙ sym (at_word ∙ rw g)
 

@@ -1,11 +1,11 @@
 -- A first line as the bytecode writer has it: 18 bytes long, the next line at 19, and its word the number of its digits.
+use Rattle.std.specs.Prelude.{Option, Some, None}
 use Prim.Native.Nat.{ℕ, ◌^◌, ◌<◌, ◌≤◌}
-use mathlib.Core.Path.{◌≡◌, refl, sym, ap, subst, ◌∙◌}
+use mathlib.Core.Path.{◌≡◌, refl, ap, subst, ◌∙◌}
 use mathlib.Core.List.{List, [], ◌∷◌, ◌++◌}
 use mathlib.Core.Bool.{Bool, true, false, ◌&&◌, and-eq-true_iff, cond}
 use native.Mathlib.Omega.{arith}
-use borrow.Author.Rules.{rules}
-use borrow.Author.Tests.{eq-eqb, ne_eqb, le-leb, lt-leb, leb-true, eqb-true}
+use borrow.Author.Tests.{leb-true, eqb-true}
 use lib.Dec.{eqb, leb}
 use lib.ListN.{length, get_or, take, drop, length-append}
 use lib.Seq.{split_at, take_at, length-take-le}
@@ -15,38 +15,9 @@ use Rattle.text.specs.Lines.{is_feed, not_feed, without_return, line_length, lin
 use Rattle.text.proofs.Laws.{other_byte, nowhere_among}
 use Rattle.text.proofs.PartLaws.{line_ended}
 use Rattle.text_read.specs.Numerals.{digit_value, is_digit_of, numeral}
-use Rattle.text_read.specs.declared.Numeral.{Numeral}
-use Rattle.text_read.specs.declared.Numeral.TheVariants.{Value, Nothing as NoNumeral}
 use Rattle.text_read.proofs.Laws.{numeral_digits, hexadecimal_prefixed, hexadecimal_digits}
 use Rattle.decoder.specs.Lines.{first_of_line, has_prefix}
 use Rattle.decoder_lines.specs.WordLine.{word_line}
-
--- ---- the ways out of the function that looks for it
-module _ (s : List ℕ) where
-  pub form_short : length s < 19 → NoNumeral ≡ word_line s
-  unfolding word_line
-  form_short h = rw (lt-leb 19 (length s) h)
-
-  module _ (h : 19 ≤ length s) where
-    pub form_no_zero : (get_or s 0 0 ≡ 48 → ⊥) → NoNumeral ≡ word_line s
-    unfolding word_line
-    form_no_zero k = rw (le-leb 19 (length s) h, ne_eqb _ _ k)
-
-    module _ (k : get_or s 0 0 ≡ 48) where
-      pub form_no_x : (get_or s 1 0 ≡ 120 → ⊥) → NoNumeral ≡ word_line s
-      unfolding word_line
-      form_no_x l = rw (le-leb 19 (length s) h, eq-eqb _ _ k, ne_eqb _ _ l)
-
-      module _ (l : get_or s 1 0 ≡ 120) where
-        pub form_no_feed : (get_or s 18 0 ≡ 10 → ⊥) → NoNumeral ≡ word_line s
-        unfolding word_line
-        form_no_feed m = rw (le-leb 19 (length s) h, eq-eqb _ _ k, eq-eqb _ _ l, ne_eqb _ _ m)
-
-        pub form_digits : get_or s 18 0 ≡ 10 → (r : Numeral) → r ≡ numeral 16 (2 ^ 64) (take 16 (drop 2 s)) → r ≡ word_line s
-        unfolding word_line
-        form_digits m r e = e ∙ sym (rw (le-leb 19 (length s) h, eq-eqb _ _ k, eq-eqb _ _ l, eq-eqb _ _ m))
-
-pub ruleset form_laws = (form_short, form_no_zero, form_no_x, form_no_feed, form_digits, rules)
 
 -- ---- `0x`, sixteen digits and a line feed
 -- of bytes that pass a test that the line feed does not pass, and a line feed, the scan takes those
@@ -59,7 +30,7 @@ feed_after p f (x ∷ l) rest h =
 
 -- what holds of the first line
 abbrev pub Said : List ℕ → ℕ → Type 0
-Said s w = (18 < length s) × (line_length s ≡ 18) × (line_next s ≡ 19) × (first_of_line (take 18 s) ≡ Value w)
+Said s w = (18 < length s) × (line_length s ≡ 18) × (line_next s ≡ 19) × (first_of_line (take 18 s) ≡ Some w)
 
 module _ (d rest : List ℕ) (a : all (is_digit_of 16) d ≡ true) (n : length d ≡ 16) where
   abbrev line : List ℕ
@@ -80,7 +51,7 @@ module _ (d rest : List ℕ) (a : all (is_digit_of 16) d ≡ true) (n : length d
   unfolding digit_value is_digit
   line_return = rw (n, nowhere_among (is_digit_of 16) d 15 13 a refl refl)
 
-  line_said : (w : ℕ) → numeral 16 (2 ^ 64) d ≡ Value w → Said line w
+  line_said : (w : ℕ) → numeral 16 (2 ^ 64) d ≡ Some w → Said line w
   line_said w e =
       let b : scan not_feed line < length line = rw line_scan line_long in
       let f = line_ended line b in (
@@ -92,12 +63,12 @@ module _ (d rest : List ℕ) (a : all (is_digit_of 16) d ≡ true) (n : length d
       )
 
 -- a choice that says a word
-chosen : (t : Bool) (m : Numeral) (w : ℕ) → cond t m NoNumeral ≡ Value w → (t ≡ true) × (m ≡ Value w)
+chosen : (t : Bool) (m : Option ℕ) (w : ℕ) → cond t m None ≡ Some w → (t ≡ true) × (m ≡ Some w)
 chosen true m w e = (refl, e)
 chosen false m w e = let z : ◌≡◌ {A = ℕ} 0 1 = cc in absurd (omega arith)
 
 form_said : (s : List ℕ) (w : ℕ) → 19 ≤ length s → get_or s 0 0 ≡ 48 → get_or s 1 0 ≡ 120 → get_or s 18 0 ≡ 10
-    → numeral 16 (2 ^ 64) (take 16 (drop 2 s)) ≡ Value w → Said s w
+    → numeral 16 (2 ^ 64) (take 16 (drop 2 s)) ≡ Some w → Said s w
 form_said [] w h k l m e = absurd (omega arith)
 form_said (x ∷ []) w h k l m e = absurd (omega arith)
 form_said (x ∷ y ∷ t) w h k l m e =
@@ -107,7 +78,7 @@ form_said (x ∷ y ∷ t) w h k l m e =
     (line_said (take 16 t) (drop 17 t) (numeral_digits 16 (2 ^ 64) w (take 16 t) e) (length-take-le 16 t (omega arith)) w e)
 
 -- where it says a word, that is the first line's
-pub said : (s : List ℕ) (w : ℕ) → word_line s ≡ Value w → Said s w
+pub said : (s : List ℕ) (w : ℕ) → word_line s ≡ Some w → Said s w
 unfolding word_line
 said s w e =
     let c = chosen (leb 19 (length s) && has_prefix s && is_feed (get_or s 18 0)) (numeral 16 (2 ^ 64) (take 16 (drop 2 s))) w e in

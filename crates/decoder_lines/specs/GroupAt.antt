@@ -1,8 +1,6 @@
 -- What stands in a bytecode from an offset on: its first word, whether a second line belongs to it, and where the next instruction starts.
-use Rattle.std.specs.Prelude.{ℕ, ◌+◌, List, cond, ltb, length, take, drop}
+use Rattle.std.specs.Prelude.{ℕ, ◌+◌, List, cond, ltb, length, take, drop, Option, Some, None}
 use Rattle.text.specs.Lines.{line_length, line_next}
-use Rattle.text_read.specs.declared.Numeral.{Numeral}
-use Rattle.text_read.specs.declared.Numeral.TheVariants.{Value, Nothing as NoNumeral}
 use Rattle.program.specs.Groups.{has_second}
 use Rattle.decoder.specs.Lines.{first_of_line}
 use Rattle.decoder_lines.specs.declared.GroupAt.{GroupAt}
@@ -15,9 +13,9 @@ group_of text w at =
     (cond (ltb at (length text)) (Pair w at (line_length (drop at text)) (at + line_next (drop at text))) Incomplete)
     (Single w at)
 
-unfoldable pub group_on : List ℕ → ℕ → Numeral → GroupAt
-group_on text at (Value w) = group_of text w at
-group_on text at NoNumeral = Unreadable
+unfoldable pub group_on : List ℕ → ℕ → Option ℕ → GroupAt
+group_on text at (Some w) = group_of text w at
+group_on text at None = Unreadable
 
 -- GroupLaws say that the lines from there on are grouped just so
 unfoldable pub group_at : List ℕ → ℕ → GroupAt

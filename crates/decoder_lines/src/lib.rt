@@ -8,12 +8,10 @@ ghost use Rattle.decoder_lines.specs.GroupAt.{group_at, group_of};
 ghost use Rattle.decoder_lines.specs.WordLine.{word_line};
 ghost use Rattle.decoder_lines.specs.ReadFrom.{read_as, read_from, at_numbered};
 
-use decoder::OpenRefusal;
-use decoder_words::Decoded;
+use decoder::{NextRefusal, OpenRefusal};
 use program::BinaryInstruction;
-use text_read::Numeral;
 
-// What stands in a bytecode from an offset on, the start of a line.
+// What stands in a bytecode from an offset on, the start of a line: five cases with names of their own, so no Option or Result.
 #[derive(Clone, Copy)]
 pub enum GroupAt {
     // No line.
@@ -38,17 +36,14 @@ pub enum GroupAt {
 
 // The instruction that stands in a bytecode from an offset on: how many lines it has, and the offset of the line after it.
 #[derive(Clone, Copy)]
-pub enum InstructionAt {
-    NoneLeft,
-    Refused(OpenRefusal),
-    Is {
-        instruction: BinaryInstruction,
-        lines: usize,
-        next: usize,
-    },
+pub struct InstructionAt {
+    pub instruction: BinaryInstruction,
+    pub lines: usize,
+    pub next: usize,
 }
 
 // The group of a first word, whose second line would start at an offset.
+#[tactic(auto, using(crate::proofs::AtLaws::of_laws))]
 fn group_of(text: &[u8], word: u64, at: usize) -> GroupAt
     requires { at ≤ length text.now }
     ensures { result ≡ group_of text.now word at }
@@ -69,25 +64,18 @@ fn group_of(text: &[u8], word: u64, at: usize) -> GroupAt
 }
 
 // The word of a first line as the bytecode writer has it: `0x`, sixteen digits and a line feed. Nothing is said of any other line.
-fn word_line(text: &[u8]) -> Numeral
+#[tactic(auto, unfolding(crate::specs::WordLine::word_line))]
+fn word_line(text: &[u8]) -> Option<u64>
     ensures { result ≡ word_line text.now }
 {
-    if text.len() < 19 {
-        return Numeral::Nothing;
+    match text.get(..19) {
+        Some([b'0', b'x', digits @ .., b'\n']) => text_read::read_hex_digits(digits, u64::MAX),
+        _ => None,
     }
-    if text[0] != b'0' {
-        return Numeral::Nothing;
-    }
-    if text[1] != b'x' {
-        return Numeral::Nothing;
-    }
-    if text[18] != b'\n' {
-        return Numeral::Nothing;
-    }
-    text_read::read_hex_digits(&text[2..18], 0xFFFF_FFFF_FFFF_FFFF)
 }
 
 // What stands in a bytecode from an offset on. A first line as the writer has it is read at once; of any other the end is looked for first.
+#[tactic(auto, using(crate::proofs::AtLaws::at_laws))]
 pub fn group_at(text: &[u8], offset: usize) -> GroupAt
     ensures { result ≡ group_at text.now offset }
 {
@@ -95,54 +83,55 @@ pub fn group_at(text: &[u8], offset: usize) -> GroupAt
         return GroupAt::Nothing;
     }
     let rest = &text[offset..];
-    if let Numeral::Value(word) = word_line(rest) {
+    if let Some(word) = word_line(rest) {
         return group_of(text, word, offset + 19);
     }
     let line = text_lines::first_line(rest);
     let length = line.length;
-    match text_read::read_hexadecimal(&rest[..length], 0xFFFF_FFFF_FFFF_FFFF) {
-        Numeral::Nothing => GroupAt::Unreadable,
-        Numeral::Value(word) => group_of(text, word, offset + line.next),
+    match text_read::read_hexadecimal(&rest[..length], u64::MAX) {
+        None => GroupAt::Unreadable,
+        Some(word) => group_of(text, word, offset + line.next),
     }
 }
 
 // A decoded instruction with its lines and the offset after them.
-fn read_as(decoded: Decoded, lines: usize, next: usize) -> InstructionAt
+#[tactic(auto, using(crate::proofs::ReadLaws::as_read, crate::proofs::ReadLaws::as_refused))]
+fn read_as(
+    decoded: Result<BinaryInstruction, OpenRefusal>,
+    lines: usize,
+    next: usize,
+) -> Result<InstructionAt, NextRefusal>
     ensures { at_numbered result ≡ read_as (decoded_numbered decoded) lines next }
 {
-    match decoded {
-        Decoded::Is(instruction) => InstructionAt::Is {
-            instruction,
-            lines,
-            next,
-        },
-        Decoded::Refused(refusal) => InstructionAt::Refused(refusal),
-    }
+    let instruction = decoded.map_err(NextRefusal::Open)?;
+    Ok(InstructionAt {
+        instruction,
+        lines,
+        next,
+    })
 }
 
 // The instruction that stands in a bytecode from an offset on, and that has an index.
-pub fn decode_at(text: &[u8], offset: usize, index: usize) -> InstructionAt
+#[tactic(auto, using(crate::proofs::ReadLaws::read_laws))]
+pub fn decode_at(text: &[u8], offset: usize, index: usize) -> Result<InstructionAt, NextRefusal>
     ensures { at_numbered result ≡ read_from index text.now offset }
 {
     match group_at(text, offset) {
-        GroupAt::Nothing => InstructionAt::NoneLeft,
-        GroupAt::Unreadable => { InstructionAt::Refused(OpenRefusal::FirstWordUnreadable(index)) }
-        GroupAt::Incomplete => InstructionAt::NoneLeft,
-        GroupAt::Single { word, next } => {
-            read_as(decoder_words::decode_alone(index, word), 1, next)
-        }
+        GroupAt::Nothing | GroupAt::Incomplete => Err(NextRefusal::NoneLeft),
+        GroupAt::Unreadable => Err(NextRefusal::Open(OpenRefusal::FirstWordUnreadable(index))),
+        GroupAt::Single { word, next } => read_as(
+            decoder_words::decode_alone(index, word),
+            1,
+            next,
+        ),
         GroupAt::Pair {
             word,
             start,
             length,
             next,
         } => {
-            let end = start + length;
-            read_as(
-                decoder_words::decode_with(index, word, &text[start..end]),
-                2,
-                next,
-            )
+            let line = &text[start..start + length];
+            read_as(decoder_words::decode_with(index, word, line), 2, next)
         }
     }
 }

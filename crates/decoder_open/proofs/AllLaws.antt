@@ -1,9 +1,9 @@
 -- Every first word read and every instruction decoded, by what the instruction from an offset on is.
+use Rattle.std.specs.Prelude.{Option, Some, None, Result, Ok, Err, ⊤}
 use Prim.Native.Nat.{ℕ, suc, ◌+◌, ◌-◌, ◌^◌, ◌<◌, ◌≤◌}
 use mathlib.Core.Path.{◌≡◌, refl, sym, ap, subst, ◌∙◌}
 use mathlib.Core.List.{List, [], ◌∷◌}
 use mathlib.Core.Bool.{true, false, true≢false, cond}
-use mathlib.Core.Option.{Option, none, some}
 use native.Mathlib.Omega.{arith}
 use borrow.Author.Rules.{rules}
 use mir.Val.{Fits}
@@ -18,21 +18,20 @@ use Rattle.decoder.specs.Lines.{line_groups, is_complete, complete_of, first_unr
 use Rattle.decoder.specs.Decode.{decoded, on_first, group_decoded}
 use Rattle.decoder.specs.Open.{open_number, open_detail, all_decoded}
 use Rattle.decoder.specs.Steps.{accepted_of, open_numbered, ReadAt}
-use Rattle.decoder.specs.declared.Opening.{Opening}
 use Rattle.decoder.specs.declared.OpenRefusal.{OpenRefusal}
 use Rattle.decoder.specs.declared.OpenRefusal.TheVariants.{TextTooLong, FirstWordUnreadable, NoOperation, LineTooMany, SecondLineUnreadable, RegisterMissing}
+use Rattle.decoder.specs.declared.NextRefusal.{NextRefusal}
+use Rattle.decoder.specs.declared.NextRefusal.TheVariants.{Open, NoneLeft}
 use Rattle.decoder.proofs.DecodeLaws.{Outcome, reads, refuses, group_outcome}
 use Rattle.decoder_lines.specs.GroupAt.{group_at}
 use Rattle.decoder_lines.specs.ReadFrom.{read_as, read_from, at_numbered}
 use Rattle.decoder_lines.specs.declared.GroupAt.{GroupAt}
 use Rattle.decoder_lines.specs.declared.GroupAt.TheVariants.{Nothing, Unreadable, Incomplete, Single, Pair}
 use Rattle.decoder_lines.specs.declared.InstructionAt.{InstructionAt}
-use Rattle.decoder_lines.specs.declared.InstructionAt.TheVariants.{NoneLeft, Refused, Is}
-use Rattle.decoder_lines.proofs.AtLaws.{at_past}
 use Rattle.decoder_lines.proofs.GroupLaws.{line_at, groups_from, nothing_groups, unreadable_first, unreadable_groups, incomplete_first, incomplete_groups, single_first, single_alone, single_groups, single_more, single_within, pair_first, pair_two, pair_groups, pair_more, pair_within}
 use Rattle.decoder_lines.proofs.ReadLaws.{reads_nothing, reads_unreadable, reads_incomplete, reads_single, reads_pair}
 use Rattle.decoder_open.specs.Unreadable.{line_first}
-use Rattle.decoder_open.proofs.LineLaws.{line_nothing, line_incomplete, line_single, line_pair, line_end}
+use Rattle.decoder_open.proofs.LineLaws.{line_nothing, line_incomplete, line_single, line_pair}
 
 -- ---- no refusal of decoding has the number 20
 
@@ -85,7 +84,7 @@ module _ (text : List ℕ) (k line at : ℕ) where
       (left ≡ accepted_of (all_decoded (k + 1) (complete_of (groups_from text r.offset))))
       × (unread ≡ first_unreadable (line + r.lines) (groups_from text r.offset))
       × (0 < r.lines) × (at + r.lines ≤ r.offset) × (r.offset ≤ length text)
-  Says (refused n d) = (left ≡ cond (eqb n 20) (ok tt) (refused n d)) × (eqb n 20 ≡ true → none ≡ unread)
+  Says (refused n d) = (left ≡ cond (eqb n 20) (ok tt) (refused n d)) × (eqb n 20 ≡ true → None ≡ unread)
 
   -- a complete instruction
   module _ (g : Group (List ℕ)) (gs : List (Group (List ℕ))) (e : groups_from text at ≡ g ∷ gs) (f : is_complete g ≡ true) where
@@ -116,7 +115,7 @@ module _ (text : List ℕ) (k line at : ℕ) where
       go Unreadable e =
           let f = unreadable_first text at e in
           subst Says (reads_unreadable k text at (group_at text at) refl e)
-          (left_refused (record { first = line_at text at; second = none }) _ (unreadable_groups text at e) (rw f) 15 k (rw f), λ t. absurd (true≢false (sym t)))
+          (left_refused (record { first = line_at text at; second = None }) _ (unreadable_groups text at e) (rw f) 15 k (rw f), λ t. absurd (true≢false (sym t)))
       go Incomplete e =
           let f = incomplete_first text at e in
           subst Says (reads_incomplete k text at (group_at text at) refl e)
@@ -125,26 +124,26 @@ module _ (text : List ℕ) (k line at : ℕ) where
           let f = single_first text at w next e in
           let h = single_alone text at w next e in
           let m = single_more text at w next e in
-          subst Says (reads_single k text at (group_at text at) refl w next e (decoded k w none) refl (read_as (decoded k w none) 1 next) refl)
-          (complete_says (record { first = line_at text at; second = none }) (groups_from text next) (single_groups text at w next e) (rw (f, h))
+          subst Says (reads_single k text at (group_at text at) refl w next e (decoded k w None) refl (read_as (decoded k w None) 1 next) refl)
+          (complete_says (record { first = line_at text at; second = None }) (groups_from text next) (single_groups text at w next e) (rw (f, h))
           next 1 refl (line_single text at line line at refl (group_at text at) refl w next e) (omega arith, omega arith, single_within text at w next e)
-          (decoded k w none) (rw f))
+          (decoded k w None) (rw f))
       go (Pair w start n next) e =
           let f = pair_first text at w start n next e in
           let h = pair_two text at w start n next e in
           let m = pair_more text at w start n next e in
           let l : List ℕ = take n (drop start text) in
           let j : start + n - start ≡ n = omega arith in
-          subst Says (reads_pair k text at (group_at text at) refl w start n next e (decoded k w (some l)) (rw j) (read_as (decoded k w (some l)) 2 next) refl)
-          (complete_says (record { first = line_at text at; second = some l }) (groups_from text next) (pair_groups text at w start n next e) (rw (f, h))
+          subst Says (reads_pair k text at (group_at text at) refl w start n next e (decoded k w (Some l)) (rw j) (read_as (decoded k w (Some l)) 2 next) refl)
+          (complete_says (record { first = line_at text at; second = Some l }) (groups_from text next) (pair_groups text at w start n next e) (rw (f, h))
           next 2 refl (line_pair text at line line at refl (group_at text at) refl w start n next e) (omega arith, omega arith, pair_within text at w start n next e)
-          (decoded k w (some l)) (rw f))
+          (decoded k w (Some l)) (rw f))
 
 -- what opening answers, 14 aside
 abbrev pub whole : List ℕ → Answer (Unit {0})
 whole text = line_first (first_unreadable 0 (line_groups (lines text))) (accepted_of (all_decoded 0 (complete_of (line_groups (lines text)))))
 
-both_pass : (o : Option ℕ) (a : Answer (Unit {0})) → none ≡ o → ok tt ≡ a → ok tt ≡ line_first o a
+both_pass : (o : Option ℕ) (a : Answer (Unit {0})) → None ≡ o → ok tt ≡ a → ok tt ≡ line_first o a
 unfolding ◌>>◌ refuse_at
 both_pass o a e f = rw (← e) f
 
@@ -152,15 +151,15 @@ both_pass o a e f = rw (← e) f
 module _ (text : List ℕ) (k line at : ℕ)
     (left : accepted_of (all_decoded 0 (complete_of (line_groups (lines text)))) ≡ accepted_of (all_decoded k (complete_of (line_groups (lines (drop at text))))))
     (unread : first_unreadable 0 (line_groups (lines text)) ≡ first_unreadable line (line_groups (lines (drop at text)))) where
-  module _ (r : InstructionAt) (e : at_numbered r ≡ read_from k text at) where
+  module _ (r : Result InstructionAt NextRefusal) (e : at_numbered r ≡ read_from k text at) where
     -- none is left
-    pub all_none : r ≡ NoneLeft → ok tt ≡ whole text
+    pub all_none : r ≡ Err NoneLeft → ok tt ≡ whole text
     all_none h =
         let s = subst (Says text k line at) (sym e ∙ ap at_numbered h) (says text k line at) in
         both_pass _ _ (s.1 refl ∙ sym unread) (sym (left ∙ s.0))
 
     -- the first refusal answers, unless a first word from there on is unreadable
-    pub all_refused : (f : OpenRefusal) → r ≡ Refused f → (a : Opening)
+    pub all_refused : (f : OpenRefusal) → r ≡ Err (Open f) → (a : Result ⊤ OpenRefusal)
         → open_numbered a ≡ line_first (first_unreadable line (line_groups (lines (drop at text)))) (refused (open_number f) (open_detail f)) → open_numbered a ≡ whole text
     all_refused f h a p =
         p
@@ -177,32 +176,29 @@ module _ (text : List ℕ) (k line at : ℕ)
         go (RegisterMissing index) s = s.0
 
     -- an instruction
-    module _ (i : BinaryInstruction) (n next : ℕ) (h : r ≡ Is i n next) where
-      told : Says text k line at (ok (record { instruction = i; lines = n; offset = next }))
+    module _ (i : InstructionAt) (h : r ≡ Ok i) where
+      told : Says text k line at (ok (record { instruction = i.instruction; lines = i.lines; offset = i.next }))
       told = subst (Says text k line at) (sym e ∙ ap at_numbered h) (says text k line at)
 
-      pub all_next : accepted_of (all_decoded 0 (complete_of (line_groups (lines text)))) ≡ accepted_of (all_decoded (k + 1) (complete_of (line_groups (lines (drop next text)))))
+      pub all_next : accepted_of (all_decoded 0 (complete_of (line_groups (lines text)))) ≡ accepted_of (all_decoded (k + 1) (complete_of (line_groups (lines (drop i.next text)))))
       all_next = left ∙ told.0
 
-      pub unread_next : first_unreadable 0 (line_groups (lines text)) ≡ first_unreadable (line + n) (line_groups (lines (drop next text)))
+      pub unread_next : first_unreadable 0 (line_groups (lines text)) ≡ first_unreadable (line + i.lines) (line_groups (lines (drop i.next text)))
       unread_next = unread ∙ told.1
 
-      pub line_next_lem : line ≤ at → line + n ≤ next
+      pub line_next_lem : line ≤ at → line + i.lines ≤ i.next
       line_next_lem p = let m = told.3 in omega arith
 
-      pub line_fits : line ≤ at → length text < 2 ^ 64 → Fits w64 (line + n)
+      pub line_fits : line ≤ at → length text < 2 ^ 64 → Fits w64 (line + i.lines)
       line_fits p q = let m = told.3 in let b = told.4 in omega arith
 
-      pub count_next : k ≤ line → k + 1 ≤ line + n
+      pub index_fits : k ≤ line → line ≤ at → length text < 2 ^ 64 → Fits w64 (k + 1)
+      index_fits p q f = let m = told.3 in let b = told.2 in let w = told.4 in omega arith
+
+      pub count_next : k ≤ line → k + 1 ≤ line + i.lines
       count_next p = let m = told.2 in omega arith
 
-      pub less_next : at < length text → length text - next < length text - at
-      less_next p = let m = told.3 in let b = told.2 in omega arith
+      pub less_next : length text - i.next < length text - at
+      less_next = let m = told.3 in let b = told.2 in let w = told.4 in omega arith
 
-  -- past the end none is left
-  pub all_end : length text ≤ at → ok tt ≡ whole text
-  unfolding complete_of all_decoded
-  all_end h =
-      both_pass _ _ (line_end text at line line at refl h ∙ sym unread) (sym (left ∙ left_as text k line at [] (nothing_groups text at (sym (at_past text at h)))))
-
-pub ruleset all_laws = (all_none, all_refused, all_next, unread_next, line_next_lem, line_fits, count_next, less_next, all_end, rules)
+pub ruleset all_laws = (all_none, all_refused, all_next, unread_next, line_next_lem, line_fits, index_fits, count_next, less_next, rules)

@@ -4,54 +4,52 @@
 ghost use Rattle.std.specs.Prelude.{◌≡◌};
 ghost use Rattle.decoder.specs.Steps.{found_numbered, line_numbered, stepped, lines_end, nth_call};
 
-use decoder::{Found, LineStep};
+use decoder::{LineStep, NextRefusal};
+use program::BinaryInstruction;
 
 // The offset at which a line starts, the text's end where there are not so many.
+#[tactic(auto, using(crate::proofs::RunLaws::line_laws))]
 fn line_offset(text: &[u8], line: usize) -> usize
     ensures { result ≡ lines_end line text.now }
 {
-    let mut at: usize = 0;
-    let mut n: usize = 0;
-    while n < line {
+    let mut at = 0;
+    for _ in 0..line {
         if at == text.len() {
             return at;
         }
         let first = text_lines::first_line(&text[at..]);
         at += first.next;
-        n += 1;
     }
     at
 }
 
 // The instruction from a line on, as if the text began there, and the line reached.
 // Promises: run_reads, run_by_offsets, opened_run, opened_form.
+#[tactic(auto, using(crate::proofs::RunLaws::step_laws))]
 pub fn next_line(text: &[u8], line: usize) -> LineStep
     ensures { line_numbered result ≡ stepped text.now line }
 {
     let offset = line_offset(text, line);
     let step = decoder_next::next_at(text, offset);
-    let found = step.found;
     LineStep {
-        found,
+        found: step.found,
         line: line + step.lines,
     }
 }
 
 // What the k-th call, from 0, of a run of calls from the first line answers. After a refusal the reader stays, so every later call answers the same.
 // Promises: nth_reads, opened_run, opened_form.
-pub fn nth(text: &[u8], k: usize) -> Found
+#[tactic(auto, using(crate::proofs::RunLaws::nth_laws))]
+pub fn nth(text: &[u8], k: usize) -> Result<BinaryInstruction, NextRefusal>
     ensures { found_numbered result ≡ nth_call text.now k }
 {
-    let mut offset: usize = 0;
-    let mut i: usize = 0;
-    while i < k {
+    let mut offset = 0;
+    for _ in 0..k {
         let step = decoder_next::next_at(text, offset);
         if step.lines == 0 {
             return step.found;
         }
         offset = step.offset;
-        i += 1;
     }
-    let step = decoder_next::next_at(text, offset);
-    step.found
+    decoder_next::next_at(text, offset).found
 }

@@ -1,8 +1,7 @@
 // One instruction from its first word and its second line: `BinaryInstruction::decode` of core/src/program/binary_program.rs.
 #![tactic(auto)]
 
-ghost use Rattle.std.specs.Prelude.{◌≡◌};
-ghost use Rattle.std.proofs.Math.Option.{none, some};
+ghost use Rattle.std.specs.Prelude.{◌≡◌, Some, None};
 ghost use Rattle.program.specs.Instructions.{is_memory};
 ghost use Rattle.decoder.specs.Lines.{second_of_line};
 ghost use Rattle.decoder.specs.Decode.{register_or, missing_op1, memory_built, built_with, two_due, decoded};
@@ -10,34 +9,20 @@ ghost use Rattle.decoder_words.specs.Decoded.{decoded_numbered};
 
 use decoder::OpenRefusal;
 use program::BinaryInstruction;
-use text_read::Numeral;
-use vm_hardware::{OlaSpecialRegister, Place, RegisterFound};
-use vm_opcodes::{OlaOpcode, OpcodeFound};
-use vm_operands::{ImmediateFound, ImmediateValue, OlaOperand};
-
-// An instruction, or why a first word and a second line are none.
-#[derive(Clone, Copy)]
-pub enum Decoded {
-    Is(BinaryInstruction),
-    Refused(OpenRefusal),
-}
+use vm_hardware::{OlaRegister, OlaSpecialRegister, Place};
+use vm_opcodes::OlaOpcode;
+use vm_operands::{ImmediateValue, OlaOperand};
 
 // The number of a second line: hexadecimal only with `0x`, once or repeated, otherwise decimal.
-pub fn second_number(line: &[u8]) -> ImmediateFound
+pub fn second_number(line: &[u8]) -> Option<ImmediateValue>
     ensures { result ≡ second_of_line line.now }
 {
-    if line.len() < 2 {
-        return ImmediateValue::from_str(line);
-    }
-    if line[0] != b'0' {
-        return ImmediateValue::from_str(line);
-    }
-    if line[1] != b'x' {
-        return ImmediateValue::from_str(line);
-    }
-    match text_read::read_hexadecimal(line, ImmediateValue::LARGEST) {
-        Numeral::Value(v) => ImmediateFound::Is(ImmediateValue::new(v)),
-        Numeral::Nothing => ImmediateFound::Nothing,
+    match line {
+        [b'0', b'x', ..] => {
+            let number = text_read::read_hexadecimal(line, ImmediateValue::LARGEST);
+            number.map(ImmediateValue::new)
+        }
+        _ => ImmediateValue::from_str(line),
     }
 }
 
@@ -45,30 +30,21 @@ pub fn second_number(line: &[u8]) -> ImmediateFound
 fn is_memory(opcode: OlaOpcode) -> bool
     ensures { result ≡ is_memory opcode }
 {
-    match opcode {
-        OlaOpcode::MLOAD | OlaOpcode::MSTORE => true,
-        _ => false,
-    }
+    matches!(opcode, OlaOpcode::MLOAD | OlaOpcode::MSTORE)
 }
 
 // Whether two lines are due: bit 62 with any operation, and mload and mstore.
 fn two_due(opcode: OlaOpcode, word: u64) -> bool
     ensures { result ≡ two_due opcode word }
 {
-    if (word >> BinaryInstruction::BIT_SHIFT_OP1_IMM) % 2 == 1 {
-        return true;
-    }
-    is_memory(opcode)
+    (word >> BinaryInstruction::BIT_SHIFT_OP1_IMM) % 2 == 1 || is_memory(opcode)
 }
 
 // A register as a content, or the content where there is none.
-fn register_or(other: OlaOperand, found: RegisterFound) -> OlaOperand
+fn register_or(other: OlaOperand, found: Option<OlaRegister>) -> OlaOperand
     ensures { result ≡ register_or other found }
 {
-    match found {
-        RegisterFound::Is(register) => OlaOperand::RegisterOperand { register },
-        RegisterFound::Nothing => other,
-    }
+    found.map_or(other, |register| OlaOperand::RegisterOperand { register })
 }
 
 // What op1 reads as without a register: psp for mov, else empty.
@@ -84,47 +60,45 @@ fn missing_op1(opcode: OlaOpcode) -> OlaOperand
 }
 
 // mload or mstore with its second line's number: 19 where a register is missing.
+#[tactic(auto, unfolding(decoder::specs::Decode::memory_built))]
 fn memory_built(
     index: usize,
     opcode: OlaOpcode,
     value: ImmediateValue,
     numbered: bool,
-    dst: RegisterFound,
-    op0: RegisterFound,
-    op1: RegisterFound,
-) -> Decoded
+    dst: Option<OlaRegister>,
+    op0: Option<OlaRegister>,
+    op1: Option<OlaRegister>,
+) -> Result<BinaryInstruction, OpenRefusal>
     ensures { decoded_numbered result ≡ memory_built index opcode value numbered dst op0 op1 }
 {
-    let RegisterFound::Is(d) = dst else {
-        return Decoded::Refused(OpenRefusal::RegisterMissing(index));
-    };
-    let RegisterFound::Is(a) = op0 else {
-        return Decoded::Refused(OpenRefusal::RegisterMissing(index));
-    };
-    if numbered {
-        return Decoded::Is(BinaryInstruction::new(
-            opcode,
-            OlaOperand::RegisterOperand { register: a },
-            OlaOperand::ImmediateOperand { value },
-            OlaOperand::RegisterOperand { register: d },
-        ));
-    }
-    let RegisterFound::Is(b) = op1 else {
-        return Decoded::Refused(OpenRefusal::RegisterMissing(index));
-    };
-    Decoded::Is(BinaryInstruction::new(
-        opcode,
-        OlaOperand::RegisterOperand { register: a },
+    let missing = OpenRefusal::RegisterMissing(index);
+    let dst = dst.ok_or(missing)?;
+    let op0 = op0.ok_or(missing)?;
+    let op1 = if numbered {
+        OlaOperand::ImmediateOperand { value }
+    } else {
         OlaOperand::RegisterWithFactor {
-            register: b,
+            register: op1.ok_or(missing)?,
             factor: value,
-        },
-        OlaOperand::RegisterOperand { register: d },
+        }
+    };
+    Ok(BinaryInstruction::new(
+        opcode,
+        OlaOperand::RegisterOperand { register: op0 },
+        op1,
+        OlaOperand::RegisterOperand { register: dst },
     ))
 }
 
 // The instruction with its second line's number.
-fn built_with(index: usize, opcode: OlaOpcode, word: u64, value: ImmediateValue) -> Decoded
+#[tactic(auto, unfolding(decoder::specs::Decode::built_with))]
+fn built_with(
+    index: usize,
+    opcode: OlaOpcode,
+    word: u64,
+    value: ImmediateValue,
+) -> Result<BinaryInstruction, OpenRefusal>
     ensures { decoded_numbered result ≡ built_with index opcode word value }
 {
     let dst = vm_hardware::lowest_register(word, Place::Dst);
@@ -134,7 +108,7 @@ fn built_with(index: usize, opcode: OlaOpcode, word: u64, value: ImmediateValue)
         let numbered = (word >> BinaryInstruction::BIT_SHIFT_OP1_IMM) % 2 == 1;
         return memory_built(index, opcode, value, numbered, dst, op0, op1);
     }
-    Decoded::Is(BinaryInstruction::new(
+    Ok(BinaryInstruction::new(
         opcode,
         register_or(OlaOperand::Empty, op0),
         OlaOperand::ImmediateOperand { value },
@@ -143,41 +117,37 @@ fn built_with(index: usize, opcode: OlaOpcode, word: u64, value: ImmediateValue)
 }
 
 // The instruction of a first word that has no second line.
-pub fn decode_alone(index: usize, word: u64) -> Decoded
-    ensures { decoded_numbered result ≡ decoded index word none }
+#[tactic(auto, unfolding(decoder::specs::Decode::on_operation))]
+pub fn decode_alone(index: usize, word: u64) -> Result<BinaryInstruction, OpenRefusal>
+    ensures { decoded_numbered result ≡ decoded index word None }
 {
-    match vm_tables::highest_operation(word) {
-        OpcodeFound::Nothing => Decoded::Refused(OpenRefusal::NoOperation(index)),
-        OpcodeFound::Is(opcode) => Decoded::Is(BinaryInstruction::new(
-            opcode,
-            register_or(
-                OlaOperand::Empty,
-                vm_hardware::lowest_register(word, Place::Op0),
-            ),
-            register_or(
-                missing_op1(opcode),
-                vm_hardware::lowest_register(word, Place::Op1),
-            ),
-            register_or(
-                OlaOperand::Empty,
-                vm_hardware::lowest_register(word, Place::Dst),
-            ),
-        )),
-    }
+    let opcode = vm_tables::highest_operation(word).ok_or(OpenRefusal::NoOperation(index))?;
+    Ok(BinaryInstruction::new(
+        opcode,
+        register_or(
+            OlaOperand::Empty,
+            vm_hardware::lowest_register(word, Place::Op0),
+        ),
+        register_or(
+            missing_op1(opcode),
+            vm_hardware::lowest_register(word, Place::Op1),
+        ),
+        register_or(
+            OlaOperand::Empty,
+            vm_hardware::lowest_register(word, Place::Dst),
+        ),
+    ))
 }
 
 // The instruction of a first word and its second line: 16, 17, 18, 19 in this order.
-pub fn decode_with(index: usize, word: u64, line: &[u8]) -> Decoded
-    ensures { decoded_numbered result ≡ decoded index word (some line.now) }
+#[tactic(auto, unfolding(decoder::specs::Decode::on_operation, decoder::specs::Decode::on_number))]
+pub fn decode_with(index: usize, word: u64, line: &[u8]) -> Result<BinaryInstruction, OpenRefusal>
+    ensures { decoded_numbered result ≡ decoded index word (Some line.now) }
 {
-    let OpcodeFound::Is(opcode) = vm_tables::highest_operation(word) else {
-        return Decoded::Refused(OpenRefusal::NoOperation(index));
-    };
+    let opcode = vm_tables::highest_operation(word).ok_or(OpenRefusal::NoOperation(index))?;
     if !two_due(opcode, word) {
-        return Decoded::Refused(OpenRefusal::LineTooMany(index));
+        return Err(OpenRefusal::LineTooMany(index));
     }
-    match second_number(line) {
-        ImmediateFound::Is(value) => built_with(index, opcode, word, value),
-        ImmediateFound::Nothing => Decoded::Refused(OpenRefusal::SecondLineUnreadable(index)),
-    }
+    let value = second_number(line).ok_or(OpenRefusal::SecondLineUnreadable(index))?;
+    built_with(index, opcode, word, value)
 }

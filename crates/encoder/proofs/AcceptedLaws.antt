@@ -1,9 +1,9 @@
 -- What is known of the canonical program of an accepted source: the rows that it is made from, one by one, its forms, and its numbers.
+use Rattle.std.specs.Prelude.{Option, Some, None}
 use Prim.Native.Nat.{ℕ, suc, ◌<◌}
 use mathlib.Core.Path.{◌≡◌, refl, sym, ap, ◌∙◌, subst}
 use mathlib.Core.List.{List, [], ◌∷◌}
 use mathlib.Core.Bool.{Bool, true, false, ◌||◌, cond, true≢false}
-use mathlib.Core.Option.{Option, none, some, some-ne-none}
 use lib.ListN.{length}
 use Rattle.text.specs.Answer.{ok}
 use Rattle.text.specs.All.{All, none_left, one_more}
@@ -30,6 +30,7 @@ use Rattle.program.specs.CanonicalForm.{or_empty, CanonicalForm, plain as regist
 use Rattle.encoder.specs.Canonical.{Names, names_of, holder_of, looked_up, plain, canonical_of, canonical_from, canonical_program, first_misplaced}
 use Rattle.encoder.specs.Assemble.{Room, Accepted, encoded_rows, assembled}
 use Rattle.encoder.proofs.Origins.{memory_rows, Anchored, by_offset, by_factor, Origin, ordinary, load, store, canonical_origin}
+use Rattle.std.proofs.lemmas.Option.{none-some}
 
 -- ---- the rows of an accepted source
 
@@ -38,7 +39,7 @@ pub record AcceptedRows (s prophets : List ℕ) (a : Accepted) : Type 0 where
   pub sorted : sorted_of s ≡ ok rows
   pub labels : a.labels ≡ length (label_rows 0 rows)
   pub canonical : canonical_program s rows ≡ ok a.program
-  pub placed : first_misplaced 0 a.program ≡ none
+  pub placed : first_misplaced 0 a.program ≡ None
   pub words : a.words ≡ program_words a.program
   pub hosts : hosts_of s rows prophets ≡ ok a.hosts
 
@@ -91,13 +92,13 @@ pub record WellPlaced (b : BinaryInstruction) : Type 0 where
   pub op0 : is_number b.op0 ≡ false
   pub dst : is_number b.dst ≡ false
 
-none_found : (t u : Bool) (k : ℕ) (later : Option ℕ) → cond (t || u) (some k) later ≡ none → (t ≡ false) × (u ≡ false) × (later ≡ none)
-none_found true u k later e = absurd (some-ne-none k e)
-none_found false true k later e = absurd (some-ne-none k e)
+none_found : (t u : Bool) (k : ℕ) (later : Option ℕ) → cond (t || u) (Some k) later ≡ None → (t ≡ false) × (u ≡ false) × (later ≡ None)
+none_found true u k later e = absurd (none-some k (sym e))
+none_found false true k later e = absurd (none-some k (sym e))
 none_found false false k later e = (refl, refl, e)
 
 -- where refusal 12 finds nothing, every instruction is so
-pub well_placed : (k : ℕ) (bs : List BinaryInstruction) → first_misplaced k bs ≡ none → All WellPlaced bs
+pub well_placed : (k : ℕ) (bs : List BinaryInstruction) → first_misplaced k bs ≡ None → All WellPlaced bs
 unfolding first_misplaced
 well_placed k [] e = none_left
 well_placed k (b ∷ bs) e =
@@ -108,9 +109,9 @@ well_placed k (b ∷ bs) e =
 
 -- a name that was found: the row that holds it, and its address
 pub looked_up_lem : (names : Names) (k : ℕ) (found : Option LabelRow) (c : OlaOperand) → looked_up names k found ≡ ok c
-    → (l : LabelRow) × (found ≡ some l) × (a_number (address_of names.instructions l.marks) ≡ c)
-looked_up_lem names k none c e = absurd (not_ok e)
-looked_up_lem names k (some l) c e = (l, refl, ok_same e)
+    → (l : LabelRow) × (found ≡ Some l) × (a_number (address_of names.instructions l.marks) ≡ c)
+looked_up_lem names k None c e = absurd (not_ok e)
+looked_up_lem names k (Some l) c e = (l, refl, ok_same e)
 
 -- nothing or a register
 data Aside : OlaOperand → Type 0 where
@@ -125,12 +126,12 @@ found_content : (names : Names) (k : ℕ) (found : Option LabelRow) (c : OlaOper
 found_content names k found c e = subst PlainContent (looked_up_lem names k found c e).2 (a_number_lem _)
 
 plain_content : (names : Names) (k : ℕ) (x : OlaAsmOperand) (c : OlaOperand) → plain names k x ≡ ok c → PlainContent c
-plain_content names k Empty c e = subst PlainContent (ok_same e) (no_number_there none)
+plain_content names k Empty c e = subst PlainContent (ok_same e) (no_number_there None)
 plain_content names k (ImmediateOperand v) c e = subst PlainContent (ok_same e) (a_number_lem v)
-plain_content names k (RegisterOperand r) c e = subst PlainContent (ok_same e) (no_number_there (some r))
-plain_content names k (RegisterWithOffset r v) c e = subst PlainContent (ok_same e) (no_number_there none)
-plain_content names k (RegisterWithFactoredRegOffset r t v) c e = subst PlainContent (ok_same e) (no_number_there none)
-plain_content names k (SpecialReg t) c e = subst PlainContent (ok_same e) (no_number_there none)
+plain_content names k (RegisterOperand r) c e = subst PlainContent (ok_same e) (no_number_there (Some r))
+plain_content names k (RegisterWithOffset r v) c e = subst PlainContent (ok_same e) (no_number_there None)
+plain_content names k (RegisterWithFactoredRegOffset r t v) c e = subst PlainContent (ok_same e) (no_number_there None)
+plain_content names k (SpecialReg t) c e = subst PlainContent (ok_same e) (no_number_there None)
 plain_content names k (Label start n) c e = found_content names k (holder_of names _ start n) c e
 plain_content names k (Identifier start n) c e = found_content names k (holder_of names _ start n) c e
 
@@ -161,7 +162,7 @@ pairs_form names k is bs (one_pair {i = i} {b = b} {is = js} {bs = cs} e p) (one
     one_more (form_of names k i b (canonical_origin names k i b e) w) (pairs_form names (suc k) js cs p ws)
 
 -- every instruction of an accepted source has one of the four forms
-pub canonical_form : (s : List ℕ) (rows : List AsmRow) (is : List BinaryInstruction) → canonical_program s rows ≡ ok is → first_misplaced 0 is ≡ none
+pub canonical_form : (s : List ℕ) (rows : List AsmRow) (is : List BinaryInstruction) → canonical_program s rows ≡ ok is → first_misplaced 0 is ≡ None
     → All CanonicalForm is
 canonical_form s rows is e m = pairs_form (names_of s rows) 0 (instructions rows) is (canonical_pairs (names_of s rows) 0 (instructions rows) is e) (well_placed 0 is m)
 

@@ -1,10 +1,10 @@
 -- What 02's Point 6 changes: a row with brackets outside mload and mstore is refused with 25. Every other row is made what it was made before, or
 -- refused as it was, and so is a program without such rows; a program that is accepted was accepted and is the same.
+use Rattle.std.specs.Prelude.{Some, None}
 use Prim.Native.Nat.{ℕ, suc}
 use mathlib.Core.Path.{◌≡◌, refl, sym, ◌∙◌}
 use mathlib.Core.List.{List, [], ◌∷◌}
 use mathlib.Core.Bool.{Bool, true, false, not, ◌&&◌, cond, true≢false}
-use mathlib.Core.Option.{none, some}
 use Rattle.text.specs.Answer.{Answer, ok, refused, ◌>>=◌, ◌>>◌, refuse_at}
 use Rattle.text.specs.All.{All, none_left, one_more}
 use Rattle.text.proofs.AnswerLaws.{not_ok, ok_bind}
@@ -44,7 +44,7 @@ module _ (names : Names) (k : ℕ) (i : OlaAsmInstruction) where
   unfolding general ◌>>◌ refuse_at
   general_is = go (has_bracket i)
     where
-      go : (t : Bool) → (refuse_at (cond t (some k) none) 25 >> former_general names k i) ≡ cond t (refused 25 k) (former_general names k i)
+      go : (t : Bool) → (refuse_at (cond t (Some k) None) 25 >> former_general names k i) ≡ cond t (refused 25 k) (former_general names k i)
       go true = refl
       go false = refl
 

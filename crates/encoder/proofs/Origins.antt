@@ -1,8 +1,8 @@
 -- Where a canonical instruction comes from: each place resolved by itself, or the memory operand and the value of mload and mstore.
+use Rattle.std.specs.Prelude.{Some, None}
 use Prim.Native.Nat.{ℕ}
-use mathlib.Core.Path.{◌≡◌, refl, ap, ◌∙◌, subst}
+use mathlib.Core.Path.{◌≡◌, refl, sym, ap, ◌∙◌, subst}
 use mathlib.Core.Bool.{Bool, true, false, cond}
-use mathlib.Core.Option.{none, some, some-ne-none}
 use Rattle.text.specs.Answer.{ok, ◌>>=◌}
 use Rattle.text.proofs.AnswerLaws.{not_ok, ok_same, ok_bind, at_passed}
 use Rattle.vm_opcodes.specs.Operations.{operations, row_places}
@@ -21,6 +21,7 @@ use Rattle.asm.specs.declared.OlaAsmInstruction.{OlaAsmInstruction}
 use Rattle.program.specs.Instructions.{made, is_memory}
 use Rattle.program.specs.declared.BinaryInstruction.{BinaryInstruction}
 use Rattle.encoder.specs.Canonical.{Names, plain, has_bracket, general, anchored, memory, canonical_by, canonical_of}
+use Rattle.std.proofs.lemmas.Option.{none-some}
 
 -- ---- mload and mstore by their rows
 
@@ -55,8 +56,8 @@ pub data Origin (names : Names) (k : ℕ) (i : OlaAsmInstruction) (b : BinaryIns
   load : row_places i.opcode ≡ DstMemory → Anchored i.opcode i.op1 i.dst b → Origin names k i b
   store : row_places i.opcode ≡ MemoryDst → Anchored i.opcode i.op0 i.op1 b → Origin names k i b
 
-not_found : (t : Bool) (k : ℕ) → cond t (some k) none ≡ none → t ≡ false
-not_found true k e = absurd (some-ne-none k e)
+not_found : (t : Bool) (k : ℕ) → cond t (Some k) None ≡ None → t ≡ false
+not_found true k e = absurd (none-some k (sym e))
 not_found false k e = refl
 
 -- a row that is no mload or mstore and is accepted has no bracket, and each of its places was resolved

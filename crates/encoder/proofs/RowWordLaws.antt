@@ -1,9 +1,9 @@
 -- An instruction has as many words as are counted for its row.
+use Rattle.std.specs.Prelude.{Option, None}
 use Prim.Native.Nat.{ℕ, suc}
 use mathlib.Core.Path.{◌≡◌, refl, sym, ap, ap₂, ◌∙◌}
 use mathlib.Core.List.{List, ◌∷◌, map}
 use mathlib.Core.Bool.{Bool, true, ◌||◌, cond}
-use mathlib.Core.Option.{Option, none}
 use lib.ListN.{length}
 use Rattle.text.specs.Lists.{total}
 use Rattle.text.specs.Answer.{ok}
@@ -79,7 +79,7 @@ module _ (s : List ℕ) (rows : List AsmRow) (is : List BinaryInstruction) (cano
   rows_words = pairs_words (names_of s rows) 0 (instructions rows) is made_of
 
   -- a program that refusals 10 to 12 and 25 let pass has as many words as are counted for its rows
-  pub program_words_lem : first_misplaced 0 is ≡ none → length (program_words is) ≡ total (map word_count (instructions rows))
+  pub program_words_lem : first_misplaced 0 is ≡ None → length (program_words is) ≡ total (map word_count (instructions rows))
   program_words_lem placed = total_emitted is (canonical_form s rows is canonical placed) ∙ ap total rows_words
 
   -- and as many instructions as instruction rows

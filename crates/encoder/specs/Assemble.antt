@@ -1,5 +1,5 @@
 -- Assembling: what it answers, refusals 1 to 13 and 25 in their order, and what it leaves in every lent buffer.
-use Rattle.std.specs.Prelude.{ℕ, List, ◌||◌, ltb, length}
+use Rattle.std.specs.Prelude.{ℕ, List, ◌||◌, ltb, length, Result, Ok, Err}
 use Rattle.text.specs.Answer.{Answer, ok, refused, ◌>>=◌, ◌>>◌, refuse_if, refuse_at, over, on_ok}
 use Rattle.asm.specs.declared.AsmRow.{AsmRow}
 use Rattle.relocate.specs.Labels.{label_rows}
@@ -11,8 +11,6 @@ use Rattle.encoder.specs.Canonical.{canonical_program, first_misplaced}
 use Rattle.encoder.specs.declared.AssembleRefusal.{AssembleRefusal}
 use Rattle.encoder.specs.declared.AssembleRefusal.TheVariants.{Relocate, NameUnknown, MemoryOperand, NumberMisplaced, RoomTooShort, BracketMisplaced}
 use Rattle.encoder.specs.declared.Totals.{Totals}
-use Rattle.encoder.specs.declared.Assembly.{Assembly}
-use Rattle.encoder.specs.declared.Assembly.TheVariants.{Refused, Assembled}
 
 -- the number of a refusal: 01's, and 02's for 25
 abbrev pub assemble_number : AssembleRefusal → ℕ
@@ -33,9 +31,9 @@ assemble_detail RoomTooShort = 0
 assemble_detail (BracketMisplaced index) = index.0
 
 -- an answer by its number, detail and counts
-abbrev pub numbered : Assembly → Answer Totals
-numbered (Refused refusal) = refused (assemble_number refusal) (assemble_detail refusal)
-numbered (Assembled totals) = ok totals
+abbrev pub numbered : Result Totals AssembleRefusal → Answer Totals
+numbered (Err refusal) = refused (assemble_number refusal) (assemble_detail refusal)
+numbered (Ok totals) = ok totals
 
 -- how many entries of each kind the caller lends
 pub record Room : Type 0 where

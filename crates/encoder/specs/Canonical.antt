@@ -1,6 +1,5 @@
 -- "The canonical program of an accepted source is its instruction rows in sorted order, each made such an instruction".
-use Rattle.std.specs.Prelude.{ℕ, suc, List, [], ◌∷◌, Bool, true, false, ◌||◌, cond}
-use Rattle.std.proofs.Math.Option.{Option, none, some}
+use Rattle.std.specs.Prelude.{ℕ, suc, List, [], ◌∷◌, Bool, true, false, ◌||◌, cond, Option, Some, None}
 use Rattle.text.specs.Answer.{Answer, ok, refused, ◌>>=◌, ◌>>◌, refuse_at}
 use Rattle.vm_opcodes.specs.Operations.{row_places}
 use Rattle.vm_opcodes.specs.declared.OlaOpcode.{OlaOpcode}
@@ -34,8 +33,8 @@ holder_of names kind start n = holder names.source kind (name_at names.source st
 -- "What is looked up becomes a number, the address of the row that holds"; 10 "a name or label that no mapped row of its kind holds",
 -- at instruction k
 abbrev pub looked_up : Names → ℕ → Option LabelRow → Answer OlaOperand
-looked_up names k none = refused 10 k
-looked_up names k (some l) = ok (a_number (address_of names.instructions l.marks))
+looked_up names k None = refused 10 k
+looked_up names k (Some l) = ok (a_number (address_of names.instructions l.marks))
 
 -- a place of any operation but mload and mstore: "pc, psp ... become empty; Label operands look only at `.LBL` rows, names only at call rows".
 -- Brackets never come here: `general` refuses them first
@@ -67,7 +66,7 @@ has_bracket i = is_bracketed i.op0 || is_bracketed i.op1 || is_bracketed i.dst
 -- the same instruction"
 unfoldable pub general : Names → ℕ → OlaAsmInstruction → Answer BinaryInstruction
 general names k i = do
-  refuse_at (cond (has_bracket i) (some k) none) 25
+  refuse_at (cond (has_bracket i) (Some k) None) 25
   op0 ← plain names k i.op0
   op1 ← plain names k i.op1
   dst ← plain names k i.dst
@@ -124,5 +123,5 @@ canonical_program s rows = canonical_from (names_of s rows) 0 (instructions rows
 
 -- 12: "a number, names resolved, in op0 or dst, the first over all instructions"
 unfoldable pub first_misplaced : ℕ → List BinaryInstruction → Option ℕ
-first_misplaced k [] = none
-first_misplaced k (i ∷ is) = let later = first_misplaced (suc k) is in cond (is_number i.op0 || is_number i.dst) (some k) later
+first_misplaced k [] = None
+first_misplaced k (i ∷ is) = let later = first_misplaced (suc k) is in cond (is_number i.op0 || is_number i.dst) (Some k) later

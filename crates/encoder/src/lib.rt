@@ -29,10 +29,3 @@ pub struct Totals {
     pub hosts: usize,
     pub kept: usize,
 }
-
-// What assembling a source answers.
-#[derive(Clone, Copy)]
-pub enum Assembly {
-    Refused(AssembleRefusal),
-    Assembled(Totals),
-}

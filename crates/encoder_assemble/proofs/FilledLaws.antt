@@ -1,9 +1,9 @@
 -- A source whose label table is filled: the stages are document 01's, and the words and hosts written are those of the accepted source.
+use Rattle.std.specs.Prelude.{None, Result, Ok, Err}
 use Prim.Native.Nat.{ℕ, ◌≤◌}
 use mathlib.Core.Path.{◌≡◌, refl, sym, ap, subst, ◌∙◌}
 use mathlib.Core.List.{List, [], ◌∷◌, ◌++◌, map}
 use mathlib.Core.Bool.{Bool}
-use mathlib.Core.Option.{none}
 use native.Mathlib.Omega.{arith}
 use borrow.Author.Rules.{rules}
 use borrow.Author.Tests.{le-leb, ltb-false, le-ltb}
@@ -21,8 +21,6 @@ use Rattle.relocate.specs.Layout.{measured, measured_numbered, layout_rows, sort
 use Rattle.relocate.specs.Columns.{column_left, kind_of, mapped_of, start_of, length_of, address_in, entries_of, LookUp, looked_in, held_hosts, hosts_put}
 use Rattle.relocate.specs.declared.LabelEntry.{LabelEntry}
 use Rattle.relocate.specs.declared.Layout.{Layout}
-use Rattle.relocate.specs.declared.Measured.{Measured}
-use Rattle.relocate.specs.declared.Measured.TheVariants.{Is as IsMeasured, Refused as NotMeasured}
 use Rattle.relocate.specs.declared.RelocateRefusal.{RelocateRefusal}
 use Rattle.relocate_laws.proofs.ColumnLaws.{held_hosts_lem, entries_columns, taken_over}
 use Rattle.relocate_laws.proofs.StretchLaws.{tabled_measured, measured_order, measured_within, measured_labels, measured_words}
@@ -33,15 +31,11 @@ use Rattle.encoder.specs.Canonical.{canonical_program, first_misplaced}
 use Rattle.encoder.specs.Assemble.{Room, Accepted, numbered, totals_of, encoded_rows, assembled, assembled_totals, words_left, hosts_left, assemble_number, assemble_detail}
 use Rattle.encoder.specs.declared.AssembleRefusal.{AssembleRefusal}
 use Rattle.encoder.specs.declared.AssembleRefusal.TheVariants.{Relocate}
-use Rattle.encoder.specs.declared.Assembly.{Assembly}
-use Rattle.encoder.specs.declared.Assembly.TheVariants.{Refused as NotAssembled, Assembled}
 use Rattle.encoder.specs.declared.Totals.{Totals}
 use Rattle.encoder.proofs.RowWordLaws.{program_words_lem}
 use Rattle.encoder_canonical.specs.Held.{held_program}
 use Rattle.encoder_canonical.proofs.HeldLaws.{held_program_lem}
 use Rattle.encoder_checks.specs.Checked.{checked_numbered, checked_of}
-use Rattle.encoder_checks.specs.declared.Checked.{Checked}
-use Rattle.encoder_checks.specs.declared.Checked.TheVariants.{Is, Refused}
 use Rattle.encoder_checks.proofs.StageLaws.{hosts_in, stages_together}
 use Rattle.encoder_assemble.specs.Written.{held_words}
 use Rattle.encoder_assemble.specs.Encoded.{encoded_totals}
@@ -60,7 +54,7 @@ hosts_refused (refused m k) n d e = let f : ◌≡◌ {A = Answer ℕ} (refused 
 pub record Filled (s list : List ℕ) (rows : List AsmRow) (room : Room) (a : Accepted) : Type 0 where
   pub hosts : hosts_of s rows list ≡ ok a.hosts
   pub canonical : canonical_program s rows ≡ ok a.program
-  pub placed : first_misplaced 0 a.program ≡ none
+  pub placed : first_misplaced 0 a.program ≡ None
   pub words : a.words ≡ program_words a.program
   pub labels : a.labels ≡ length (label_rows 0 rows)
   pub wordroom : length a.words ≤ room.words
@@ -97,7 +91,7 @@ module _ (s list : List ℕ) (n : ℕ) (l : Layout) (h : measured s n ≡ ok l) 
   program_held : held_program s look 0 (sorted_instructions s l.start l.end) ≡ canonical_program s (layout_rows s l)
   program_held = rw (t, sorted_is) (held_program_lem s (layout_rows s l) 0 (instructions (layout_rows s l)))
 
-  words_counted : (bs : List BinaryInstruction) → canonical_program s (layout_rows s l) ≡ ok bs → first_misplaced 0 bs ≡ none → length (program_words bs) ≡ l.words
+  words_counted : (bs : List BinaryInstruction) → canonical_program s (layout_rows s l) ≡ ok bs → first_misplaced 0 bs ≡ None → length (program_words bs) ≡ l.words
   words_counted bs e m = program_words_lem s (layout_rows s l) bs e m ∙ sym (measured_words s n l h)
 
   module _ (entries wordroom hostroom : ℕ) where
@@ -105,13 +99,13 @@ module _ (s list : List ℕ) (n : ℕ) (l : Layout) (h : measured s n ≡ ok l) 
     together =
         stages_together s list (layout_rows s l) look l (record { entries = entries; words = wordroom; hosts = hostroom }) hosts_held program_held words_counted
 
-    module _ (x : Checked) (e : checked_numbered x ≡ checked_of s list look l wordroom hostroom) where
+    module _ (x : Result ℕ AssembleRefusal) (e : checked_numbered x ≡ checked_of s list look l wordroom hostroom) where
       -- a refusal is that of the source
-      module _ (f : AssembleRefusal) (g : x ≡ Refused f) where
+      module _ (f : AssembleRefusal) (g : x ≡ Err f) where
         refused_so : encoded_rows s (layout_rows s l) list (record { entries = entries; words = wordroom; hosts = hostroom }) ≡ refused (assemble_number f) (assemble_detail f)
         refused_so = hosts_refused (encoded_rows s (layout_rows s l) list (record { entries = entries; words = wordroom; hosts = hostroom })) _ _ (sym (ap checked_numbered (sym g) ∙ e ∙ together))
 
-        pub filled_refused : numbered (NotAssembled f) ≡ (encoded_rows s (layout_rows s l) list (record { entries = entries; words = wordroom; hosts = hostroom }) >>= λ a. ok (totals_of a))
+        pub filled_refused : numbered (Err f) ≡ (encoded_rows s (layout_rows s l) list (record { entries = entries; words = wordroom; hosts = hostroom }) >>= λ a. ok (totals_of a))
         unfolding ◌>>=◌
         filled_refused = sym (ap (λ (y : Answer Accepted). y >>= λ a. ok (totals_of a)) refused_so)
 
@@ -124,7 +118,7 @@ module _ (s list : List ℕ) (n : ℕ) (l : Layout) (h : measured s n ≡ ok l) 
         hosts_kept w = sym (ap (λ (y : Answer Accepted). hosts_left y w) refused_so)
 
       -- otherwise it is accepted
-      module _ (count : ℕ) (g : x ≡ Is count) where
+      module _ (count : ℕ) (g : x ≡ Ok count) where
         accepted : (a : Accepted) × (encoded_rows s (layout_rows s l) list (record { entries = entries; words = wordroom; hosts = hostroom }) ≡ ok a) × (ok (length a.hosts) ≡ ok count)
         accepted = ok_bind (encoded_rows s (layout_rows s l) list (record { entries = entries; words = wordroom; hosts = hostroom })) _ count (sym together ∙ sym e ∙ ap checked_numbered g)
 
@@ -168,8 +162,8 @@ module _ (s list : List ℕ) (n : ℕ) (l : Layout) (h : measured s n ≡ ok l) 
             let y = length-append a.hosts (drop (length a.hosts) w) in
             omega arith
 
-        pub totals_told : (w v : List ℕ) (r : Assembly) → hostroom ≡ length w → v ≡ hosts_put (held_hosts look list) w
-            → r ≡ Assembled (record { labels = l.labels; words = l.words; hosts = count; kept = kept_count (take count v) })
+        pub totals_told : (w v : List ℕ) (r : Result Totals AssembleRefusal) → hostroom ≡ length w → v ≡ hosts_put (held_hosts look list) w
+            → r ≡ Ok (record { labels = l.labels; words = l.words; hosts = count; kept = kept_count (take count v) })
             → numbered r ≡ (encoded_rows s (layout_rows s l) list (record { entries = entries; words = wordroom; hosts = hostroom }) >>= λ a. ok (totals_of a))
         unfolding ◌>>=◌
         totals_told w v r k i j =
@@ -189,31 +183,45 @@ module _ (s list : List ℕ) (n : ℕ) (l : Layout) (h : measured s n ≡ ok l) 
                 → ◌≡◌ {A = Answer Totals} (ok (record { labels = p; words = q; hosts = r; kept = u })) (ok (record { labels = p'; words = q'; hosts = r'; kept = u' }))
             same p p' q q' r r' u u' e f g h = cc
 
-pub ruleset filled_laws = (filled_refused, words_kept, hosts_kept, words_fit, words_written, hosts_written, count_fits, totals_told, rules)
-
 -- ---- assembling
 
-module _ (s list : List ℕ) (entries wordroom hostroom : ℕ) (x : Measured) (e : measured_numbered x ≡ measured s entries) where
-  module _ (f : RelocateRefusal) (g : x ≡ NotMeasured f) where
+module _ (s list : List ℕ) (entries wordroom hostroom : ℕ) (x : Result Layout RelocateRefusal) (e : measured_numbered x ≡ measured s entries) where
+  module _ (f : RelocateRefusal) (g : x ≡ Err f) where
     assembled_refused : assembled s list (record { entries = entries; words = wordroom; hosts = hostroom }) ≡ refused (relocate_number f) (relocate_detail f)
     unfolding assembled ◌>>=◌
     assembled_refused =
         ap (λ (y : Answer (List AsmRow)). y >>= λ rows. encoded_rows s rows list (record { entries = entries; words = wordroom; hosts = hostroom }))
         (tabled_measured s entries ∙ ap (λ (y : Answer Layout). y >>= λ l. ok (layout_rows s l)) (sym e ∙ ap measured_numbered g))
 
-    pub source_refused : numbered (NotAssembled (Relocate f)) ≡ assembled_totals s list (record { entries = entries; words = wordroom; hosts = hostroom })
+    pub source_refused : numbered (Err (Relocate f)) ≡ assembled_totals s list (record { entries = entries; words = wordroom; hosts = hostroom })
     unfolding assembled_totals ◌>>=◌
     source_refused = sym (ap (λ (y : Answer Accepted). y >>= λ a. ok (totals_of a)) assembled_refused)
 
-    pub source_words : (w : List ℕ) → w ≡ words_left (assembled s list (record { entries = entries; words = wordroom; hosts = hostroom })) w
+    source_words : (w : List ℕ) → w ≡ words_left (assembled s list (record { entries = entries; words = wordroom; hosts = hostroom })) w
     unfolding on_ok
     source_words w = sym (ap (λ (y : Answer Accepted). words_left y w) assembled_refused)
 
-    pub source_hosts : (w : List ℕ) → w ≡ hosts_left (assembled s list (record { entries = entries; words = wordroom; hosts = hostroom })) w
+    source_hosts : (w : List ℕ) → w ≡ hosts_left (assembled s list (record { entries = entries; words = wordroom; hosts = hostroom })) w
     unfolding on_ok
     source_hosts w = sym (ap (λ (y : Answer Accepted). hosts_left y w) assembled_refused)
 
-  module _ (l : Layout) (g : x ≡ IsMeasured l) where
+  -- what is not accepted is refused
+  module _ (no : (l : Layout) → x ≡ Ok l → ⊥) (w : List ℕ) where
+    pub refused_words : w ≡ words_left (assembled s list (record { entries = entries; words = wordroom; hosts = hostroom })) w
+    refused_words = go x refl
+      where
+        go : (y : Result Layout RelocateRefusal) → x ≡ y → w ≡ words_left (assembled s list (record { entries = entries; words = wordroom; hosts = hostroom })) w
+        go (Ok l) g = absurd (no l g)
+        go (Err f) g = source_words f g w
+
+    pub refused_hosts : w ≡ hosts_left (assembled s list (record { entries = entries; words = wordroom; hosts = hostroom })) w
+    refused_hosts = go x refl
+      where
+        go : (y : Result Layout RelocateRefusal) → x ≡ y → w ≡ hosts_left (assembled s list (record { entries = entries; words = wordroom; hosts = hostroom })) w
+        go (Ok l) g = absurd (no l g)
+        go (Err f) g = source_hosts f g w
+
+  module _ (l : Layout) (g : x ≡ Ok l) where
     source_measured : measured s entries ≡ ok l
     source_measured = sym e ∙ ap measured_numbered g
 
@@ -230,7 +238,7 @@ module _ (s list : List ℕ) (entries wordroom hostroom : ℕ) (x : Measured) (e
     room_is : (m : ℕ) → m ≡ entries → encoded_rows s (layout_rows s l) list (record { entries = m; words = wordroom; hosts = hostroom }) ≡ assembled s list (record { entries = entries; words = wordroom; hosts = hostroom })
     room_is m k = ap (λ (m : ℕ). encoded_rows s (layout_rows s l) list (record { entries = m; words = wordroom; hosts = hostroom })) k ∙ assembled_is
 
-    pub source_told : (m : ℕ) → m ≡ entries → (r : Assembly) → numbered r ≡ encoded_totals s (layout_rows s l) list (record { entries = m; words = wordroom; hosts = hostroom }) → numbered r ≡ assembled_totals s list (record { entries = entries; words = wordroom; hosts = hostroom })
+    pub source_told : (m : ℕ) → m ≡ entries → (r : Result Totals AssembleRefusal) → numbered r ≡ encoded_totals s (layout_rows s l) list (record { entries = m; words = wordroom; hosts = hostroom }) → numbered r ≡ assembled_totals s list (record { entries = entries; words = wordroom; hosts = hostroom })
     unfolding assembled_totals
     source_told m k r h = h ∙ ap (λ (y : Answer Accepted). y >>= λ a. ok (totals_of a)) (room_is m k)
 
@@ -274,10 +282,10 @@ module _ (s list : List ℕ) (entries wordroom hostroom : ℕ) (x : Measured) (e
         rw (column_is kind_of k k' h, column_is mapped_of m m' i, column_is start_of p p' j, column_is length_of q q' u, column_is address_in a a' v)
         (entries_columns (table_of (layout_rows s l)))
 
-pub ruleset source_laws = (source_refused, source_words, source_hosts, room_measured, source_told, source_wrote, source_hosted, table_filled, rules)
+pub ruleset source_laws = (source_refused, rules)
 
 -- the part that is counted is as long as its count
-pub counts_told : (l : Layout) (count : ℕ) (hs : List ℕ) (r : Assembly) → count ≤ length hs
-    → r ≡ Assembled (record { labels = l.labels; words = l.words; hosts = length (take count hs); kept = kept_count (take count hs) })
-    → r ≡ Assembled (record { labels = l.labels; words = l.words; hosts = count; kept = kept_count (take count hs) })
-counts_told l count hs r h e = e ∙ ap (λ (n : ℕ). Assembled (record { labels = l.labels; words = l.words; hosts = n; kept = kept_count (take count hs) })) (length-take-le count hs h)
+pub counts_told : (l : Layout) (count : ℕ) (hs : List ℕ) (r : Result Totals AssembleRefusal) → count ≤ length hs
+    → r ≡ Ok (record { labels = l.labels; words = l.words; hosts = length (take count hs); kept = kept_count (take count hs) })
+    → r ≡ Ok (record { labels = l.labels; words = l.words; hosts = count; kept = kept_count (take count hs) })
+counts_told l count hs r h e = e ∙ ap (λ (n : ℕ). Ok (record { labels = l.labels; words = l.words; hosts = n; kept = kept_count (take count hs) })) (length-take-le count hs h)

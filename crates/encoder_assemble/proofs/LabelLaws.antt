@@ -1,9 +1,9 @@
 -- How many label rows a source can have: each takes two bytes at least, and one that parts it from the next line.
+use Rattle.std.specs.Prelude.{Option, Some, None}
 use Prim.Native.Nat.{ℕ, ◌-◌, ◌*◌, ◌+◌, ◌≤◌}
 use mathlib.Core.Path.{◌≡◌, refl, sym, subst, ◌∙◌}
 use mathlib.Core.List.{List, [], ◌∷◌, map}
 use mathlib.Core.Bool.{Bool, true, false, cond, ◌&&◌, ◌||◌}
-use mathlib.Core.Option.{none, some}
 use native.Mathlib.Omega.{arith}
 use borrow.Author.Tests.{ltb-false, eqb-false}
 use lib.Dec.{eqb, ltb}
@@ -21,8 +21,6 @@ use Rattle.asm.specs.Rows.{operands_of, arranged_if, is_call_row, is_pair_row, l
 use Rattle.asm.specs.Survey.{is_label_row, is_main_row, count_rows}
 use Rattle.asm.specs.declared.AsmRow.{AsmRow}
 use Rattle.asm.specs.declared.AsmRow.TheVariants.{Instruction, LabelCall, LabelJmp, LabelProphet}
-use Rattle.asm.specs.declared.RowRead.{RowRead}
-use Rattle.asm.specs.declared.RowRead.TheVariants.{Is, Unreadable}
 use Rattle.asm_laws.proofs.LengthLaws.{row_bytes, source_bytes}
 use Rattle.asm_laws.proofs.PlaceLaws.{arranged_if_related}
 use Rattle.relocate.specs.Scopes.{main_count}
@@ -66,12 +64,12 @@ pair_two letters (b ∷ []) f h =
 pair_two letters (b ∷ c ∷ x) f h = omega arith
 
 -- at least three bytes, if it is a label row
-abbrev TakesThree : ℕ → RowRead → Type 0
-TakesThree n (Is (Instruction i)) = Unit {0}
-TakesThree n (Is (LabelCall start k)) = 3 ≤ n
-TakesThree n (Is (LabelJmp start k)) = 3 ≤ n
-TakesThree n (Is (LabelProphet start k)) = 3 ≤ n
-TakesThree n Unreadable = Unit {0}
+abbrev TakesThree : ℕ → Option AsmRow → Type 0
+TakesThree n (Some (Instruction i)) = Unit {0}
+TakesThree n (Some (LabelCall start k)) = 3 ≤ n
+TakesThree n (Some (LabelJmp start k)) = 3 ≤ n
+TakesThree n (Some (LabelProphet start k)) = 3 ≤ n
+TakesThree n None = Unit {0}
 
 -- a label row's piece and the byte after it
 label_three : (ps : List Part) → TakesThree (row_bytes ps) (row_of ps)
@@ -86,11 +84,11 @@ label_three (q ∷ []) =
     n = length q.text
 
     go : (a : Bool) → (a ≡ true → 2 ≤ n) → (b : Bool) → (b ≡ true → 2 ≤ n) → (c : Bool) → (c ≡ true → 2 ≤ n) → (i k : ℕ)
-        → TakesThree (row_bytes (q ∷ [])) (or_else_row (cond a (some (LabelCall i k)) (cond b (some (LabelJmp i k)) (cond c (some (LabelProphet i k)) none))) (arranged_if (operation_of q.text) (some [])))
+        → TakesThree (row_bytes (q ∷ [])) (or_else_row (cond a (Some (LabelCall i k)) (cond b (Some (LabelJmp i k)) (cond c (Some (LabelProphet i k)) None))) (arranged_if (operation_of q.text) (Some [])))
     go true f b g c h i k = let e = f refl in omega arith
     go false f true g c h i k = let e = g refl in omega arith
     go false f false g true h i k = let e = h refl in omega arith
-    go false f false g false h i k = arranged_if_related 0 (λ x y. TakesThree (row_bytes (q ∷ [])) x) tt (λ i. tt) (operation_of q.text) (some [])
+    go false f false g false h i k = arranged_if_related 0 (λ x y. TakesThree (row_bytes (q ∷ [])) x) tt (λ i. tt) (operation_of q.text) (Some [])
 
 -- ---- the label rows of a source
 
@@ -100,7 +98,7 @@ unfolding count_rows total
 read_labels none_read = omega arith
 read_labels (one_read {ps = ps} {pss = pss} {r = r} {rs = rs} e h) = go r (subst (TakesThree (row_bytes ps)) e (label_three ps)) (read_labels h)
   where
-    go : (r : AsmRow) → TakesThree (row_bytes ps) (Is r) → 3 * count_rows is_label_row rs ≤ total (map row_bytes pss)
+    go : (r : AsmRow) → TakesThree (row_bytes ps) (Some r) → 3 * count_rows is_label_row rs ≤ total (map row_bytes pss)
         → 3 * count_rows is_label_row (r ∷ rs) ≤ total (map row_bytes (ps ∷ pss))
     go (Instruction i) a k = omega arith
     go (LabelCall start n) a k = omega arith

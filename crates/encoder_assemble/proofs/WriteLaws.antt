@@ -1,10 +1,8 @@
 -- Words written one after another: those of an instruction, and those of a source's instruction rows.
+use Rattle.std.specs.Prelude.{Option, Some, None, Result, Ok, Err}
 use Prim.Native.Nat.{ℕ, suc, ◌+◌, ◌<◌, ◌≤◌}
 use mathlib.Core.Path.{◌≡◌, refl, sym, ap, ◌∙◌}
 use mathlib.Core.List.{List, [], ◌∷◌, ◌++◌}
-use mathlib.Core.Option.{Option, none, some}
-use types.Run.{OneOf, miss}
-use denote.Enum.Declared.{tag_of}
 use native.Mathlib.Omega.{arith}
 use native.Mathlib.Numerals.{add-one}
 use borrow.Author.Rules.{rules}
@@ -16,46 +14,41 @@ use Rattle.text_write.proofs.Laws.{sets_append}
 use Rattle.asm.specs.declared.OlaAsmInstruction.{OlaAsmInstruction}
 use Rattle.relocate.specs.Layout.{sorted_instructions}
 use Rattle.relocate.specs.Columns.{LookUp}
-use Rattle.program.specs.Words.{first_word, second_word, in_order, words_of, program_words, second_of}
+use Rattle.program.specs.Words.{first_word, second_word, in_order, words_of, program_words}
 use Rattle.program.specs.declared.BinaryInstruction.{BinaryInstruction}
-use Rattle.program.specs.declared.SecondWord.{SecondWord}
-use Rattle.program.specs.declared.SecondWord.TheVariants.{Number, Nothing}
 use Rattle.encoder_canonical.specs.Held.{held_program}
-use Rattle.encoder_canonical.specs.declared.Canonical.{Canonical}
-use Rattle.encoder_canonical.specs.declared.Canonical.TheVariants.{Is as Made, Unknown, Misused, Bracketed}
 use Rattle.encoder_lines.specs.Lines.{of_canonical, canonical_at}
-use Rattle.encoder_lines.specs.declared.CanonicalLine.{CanonicalLine}
-use Rattle.encoder_lines.specs.declared.CanonicalLine.TheVariants.{Skip, Is as MadeLine, Unknown as UnknownLine, Misused as MisusedLine, Bracketed as BracketedLine}
-use Rattle.encoder_lines.specs.contracts.CanonicalLine.{the_type as lineType}
 use Rattle.encoder_lines.specs.declared.CanonicalAt.{CanonicalAt}
 use Rattle.encoder_walks.proofs.LineLaws.{rows_from, rows_start, rows_end, line_skip, line_row, line_laws}
 use Rattle.encoder_walks.proofs.ProgramLaws.{accepted_first}
 use Rattle.encoder_assemble.specs.Written.{words_if, held_words}
+use Rattle.encoder_canonical.specs.declared.CanonicalRefusal.{CanonicalRefusal}
+use Rattle.encoder_canonical.specs.declared.CanonicalRefusal.TheVariants.{Unknown, Misused, Bracketed}
 
 -- ---- the words of an instruction
 
 -- there is a first word
 words_some : (w : ℕ) (o : Option ℕ) → 1 ≤ length (in_order w o)
-words_some w none = omega arith
-words_some w (some v) = omega arith
+words_some w None = omega arith
+words_some w (Some v) = omega arith
 
 -- a second word told is the second word
-second_some : (o : Option ℕ) (w v : ℕ) → Number v ≡ second_of o → in_order w o ≡ w ∷ v ∷ []
-second_some none w v e = let z : ◌≡◌ {A = ℕ} 0 1 = cc in absurd (omega arith)
-second_some (some u) w v e = let z : v ≡ u = cc in rw z
+second_some : (o : Option ℕ) (w v : ℕ) → Some v ≡ o → in_order w o ≡ w ∷ v ∷ []
+second_some None w v e = let z : ◌≡◌ {A = ℕ} 0 1 = cc in absurd (omega arith)
+second_some (Some u) w v e = let z : v ≡ u = cc in rw z
 
 -- none told is none
-second_none : (o : Option ℕ) (w : ℕ) → Nothing ≡ second_of o → in_order w o ≡ w ∷ []
-second_none none w e = refl
-second_none (some u) w e = let z : ◌≡◌ {A = ℕ} 0 1 = cc in absurd (omega arith)
+second_none : (o : Option ℕ) (w : ℕ) → None ≡ o → in_order w o ≡ w ∷ []
+second_none None w e = refl
+second_none (Some u) w e = let z : ◌≡◌ {A = ℕ} 0 1 = cc in absurd (omega arith)
 
 module _ (m : BinaryInstruction) (n : ℕ) (words : List ℕ) (k : n + length (words_of m) ≤ length words) where
   -- there is room for the first word
   pub put_first : n < length words
   put_first = let w = words_some (first_word m) (second_word m) in omega arith
 
-  module _ (o : SecondWord) (e : o ≡ second_of (second_word m)) where
-    module _ (v : ℕ) (f : o ≡ Number v) where
+  module _ (o : Option ℕ) (e : o ≡ second_word m) where
+    module _ (v : ℕ) (f : o ≡ Some v) where
       -- the words, where a second was told
       two_words : words_of m ≡ first_word m ∷ v ∷ []
       two_words = second_some (second_word m) (first_word m) v (sym f ∙ e)
@@ -72,7 +65,7 @@ module _ (m : BinaryInstruction) (n : ℕ) (words : List ℕ) (k : n + length (w
       pub put_both : (w : ℕ) → w ≡ first_word m → set (set words n w) (n + 1) v ≡ sets words n (words_of m)
       put_both w g = rw (two_words, g, add-one n)
 
-    module _ (f : o ≡ Nothing) where
+    module _ (f : o ≡ None) where
       -- the words, where none was told
       one_word : words_of m ≡ first_word m ∷ []
       one_word = second_none (second_word m) (first_word m) (sym f ∙ e)
@@ -91,32 +84,31 @@ pub ruleset put_laws = (put_first, put_second, put_two, put_both, put_one, put_a
 
 module _ (s : List ℕ) (look : LookUp) (start end at : ℕ) (r : CanonicalAt) (e : r ≡ canonical_at s look start end at) (a : start ≤ end) (b : end ≤ length s) (h : at < length s) where
   -- what a row became stands before the words of the rows behind it
-  words_row : (c : Canonical) → r.found ≡ of_canonical c → held_words s look (rows_from s start end at) ≡ words_if c ++ held_words s look (rows_from s start end r.next)
+  words_row : (c : Result BinaryInstruction CanonicalRefusal) → r.found ≡ of_canonical c → held_words s look (rows_from s start end at) ≡ words_if c ++ held_words s look (rows_from s start end r.next)
   unfolding held_words
   words_row c f =
       let w = line_row s look start end at r a b e h c f in
-      ap (held_words s look) w.rest ∙ ap (λ (x : Canonical). words_if x ++ held_words s look (rows_from s start end r.next)) w.held
+      ap (held_words s look) w.rest ∙ ap (λ (x : Result BinaryInstruction CanonicalRefusal). words_if x ++ held_words s look (rows_from s start end r.next)) w.held
 
-  -- a line that became no instruction has no words
-  words_none : OneOf (0 ∷ 2 ∷ 3 ∷ 4 ∷ []) (tag_of lineType r.found) → held_words s look (rows_from s start end at) ≡ held_words s look (rows_from s start end r.next)
-  words_none k = go r.found refl k
-    where
-      go : (l : CanonicalLine) → r.found ≡ l → OneOf (0 ∷ 2 ∷ 3 ∷ 4 ∷ []) (tag_of lineType l) → held_words s look (rows_from s start end at) ≡ held_words s look (rows_from s start end r.next)
-      go Skip f k = ap (held_words s look) (line_skip s look start end at r a b e h f)
-      go (MadeLine m) f k = absurd (miss (0 ∷ 2 ∷ 3 ∷ 4 ∷ []) 1 tt k)
-      go UnknownLine f k = words_row Unknown f
-      go MisusedLine f k = words_row Misused f
-      go BracketedLine f k = words_row Bracketed f
+  -- a line that is no instruction row has no words
+  pub words_skip : r.found ≡ Ok None → held_words s look (rows_from s start end at) ≡ held_words s look (rows_from s start end r.next)
+  words_skip f = ap (held_words s look) (line_skip s look start end at r a b e h f)
+
+  -- nor has a row that is refused
+  pub words_refused : (c : CanonicalRefusal) → r.found ≡ Err c → held_words s look (rows_from s start end at) ≡ held_words s look (rows_from s start end r.next)
+  words_refused Unknown f = words_row (Err Unknown) f
+  words_refused Misused f = words_row (Err Misused) f
+  words_refused Bracketed f = words_row (Err Bracketed) f
 
   module _ (n : ℕ) (new : List ℕ) (k : n + length (held_words s look (rows_from s start end at)) ≤ length new) where
     -- it leaves the room
-    pub room_none : OneOf (0 ∷ 2 ∷ 3 ∷ 4 ∷ []) (tag_of lineType r.found) → n + length (held_words s look (rows_from s start end r.next)) ≤ length new
-    room_none f = let w = ap length (words_none f) in omega arith
+    pub room_none : held_words s look (rows_from s start end at) ≡ held_words s look (rows_from s start end r.next) → n + length (held_words s look (rows_from s start end r.next)) ≤ length new
+    room_none f = let w = ap length f in omega arith
 
-    module _ (m : BinaryInstruction) (f : r.found ≡ MadeLine m) where
+    module _ (m : BinaryInstruction) (f : r.found ≡ Ok (Some m)) where
       -- an instruction's words and those behind it, counted
       words_count : length (held_words s look (rows_from s start end at)) ≡ length (words_of m) + length (held_words s look (rows_from s start end r.next))
-      words_count = ap length (words_row (Made m) f) ∙ length-append (words_of m) (held_words s look (rows_from s start end r.next))
+      words_count = ap length (words_row (Ok m) f) ∙ length-append (words_of m) (held_words s look (rows_from s start end r.next))
 
       -- an instruction has room for its words
       pub room_made : n + length (words_of m) ≤ length new
@@ -131,15 +123,15 @@ module _ (s : List ℕ) (look : LookUp) (start end at : ℕ) (r : CanonicalAt) (
 
   module _ (n : ℕ) (old new : List ℕ) (t : sets old 0 (held_words s look (sorted_instructions s start end)) ≡ sets new n (held_words s look (rows_from s start end at))) where
     -- and what is to be written
-    pub write_none : OneOf (0 ∷ 2 ∷ 3 ∷ 4 ∷ []) (tag_of lineType r.found) → sets old 0 (held_words s look (sorted_instructions s start end)) ≡ sets new n (held_words s look (rows_from s start end r.next))
-    write_none f = t ∙ ap (sets new n) (words_none f)
+    pub write_none : held_words s look (rows_from s start end at) ≡ held_words s look (rows_from s start end r.next) → sets old 0 (held_words s look (sorted_instructions s start end)) ≡ sets new n (held_words s look (rows_from s start end r.next))
+    write_none f = t ∙ ap (sets new n) f
 
     -- an instruction's words more
-    pub write_more : (m : BinaryInstruction) (p : ℕ) (next : List ℕ) → r.found ≡ MadeLine m → p ≡ n + length (words_of m) → next ≡ sets new n (words_of m)
+    pub write_more : (m : BinaryInstruction) (p : ℕ) (next : List ℕ) → r.found ≡ Ok (Some m) → p ≡ n + length (words_of m) → next ≡ sets new n (words_of m)
         → sets old 0 (held_words s look (sorted_instructions s start end)) ≡ sets next p (held_words s look (rows_from s start end r.next))
     write_more m p next f g i =
         t
-        ∙ ap (sets new n) (words_row (Made m) f)
+        ∙ ap (sets new n) (words_row (Ok m) f)
         ∙ sets_append (words_of m) (held_words s look (rows_from s start end r.next)) new n
         ∙ rw (g, i)
 
@@ -163,7 +155,7 @@ module _ (s : List ℕ) (look : LookUp) (start end : ℕ) (a : start ≤ end) (b
 pub length_more : (m : BinaryInstruction) (n : ℕ) (old new next : List ℕ) → next ≡ sets new n (words_of m) → length new ≡ length old → length next ≡ length old
 length_more m n old new next i l = ap length i ∙ length-sets new n (words_of m) ∙ l
 
-pub ruleset write_laws = (line_laws, write_start, room_start, write_end, room_none, room_made, room_more, write_none, write_more, length_more, rules)
+pub ruleset write_laws = (line_laws, write_start, room_start, write_end, words_skip, words_refused, room_none, room_made, room_more, write_none, write_more, length_more, rules)
 
 -- ---- a program whose names are all known
 

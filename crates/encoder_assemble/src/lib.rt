@@ -1,11 +1,12 @@
 // Assembling over parallel slices: `encode_to_binary` of assembler/src/encoder.rs, each step a function of its own.
 #![tactic(auto)]
 
-ghost use Rattle.std.specs.Prelude.{◌≡◌, ◌+◌, ◌≤◌, length, take};
+ghost use Rattle.std.specs.Prelude.{◌≡◌, ◌+◌, ◌≤◌, length, take, Ok};
 ghost use Rattle.std.proofs.lemmas.List.Edits.{sets};
 ghost use Rattle.relocate.specs.Layout.{sorted_instructions};
 ghost use Rattle.relocate.specs.Columns.{entries_of, looked_in};
-ghost use Rattle.relocate_chains.specs.Chains.{chained_address};
+ghost use Rattle.relocate_names.specs.Entries.{entries_in};
+ghost use Rattle.relocate_chains.specs.ByChains.{by_chains};
 ghost use Rattle.program.specs.Words.{words_of};
 ghost use Rattle.text.specs.Answer.{ok};
 ghost use Rattle.relocate.specs.Labels.{table_of};
@@ -14,18 +15,19 @@ ghost use Rattle.relocate.specs.Relocate.{tabled};
 ghost use Rattle.relocate.specs.Columns.{column_left, kind_of, mapped_of, start_of, length_of, address_in};
 ghost use Rattle.relocate.specs.Layout.{measured, layout_rows};
 ghost use Rattle.relocate_names.specs.Shortest.{shortest_of};
-ghost use Rattle.encoder.specs.declared.Assembly.TheVariants.{Assembled};
 ghost use Rattle.encoder.specs.Assemble.{numbered, encoded_rows, assembled, assembled_totals, words_left, hosts_left};
 ghost use Rattle.encoder_assemble.specs.Written.{held_words};
 ghost use Rattle.encoder_assemble.specs.Encoded.{encoded_totals};
 
-use encoder::{AssembleRefusal, Assembly};
-use encoder_checks::Checked;
-use encoder_lines::CanonicalLine;
-use program::{BinaryInstruction, SecondWord};
-use relocate::{Layout, Measured};
+use encoder::{AssembleRefusal, Totals};
+use encoder_lines::CanonicalAt;
+use program::BinaryInstruction;
+use relocate::Layout;
+use relocate_chains::ChainedTable;
+use relocate_names::Columns;
 
 // Writes the words of an instruction from place n on, and answers the place after them.
+#[tactic(auto, using(crate::proofs::WriteLaws::put_laws))]
 fn put_words(instruction: BinaryInstruction, n: usize, words: &mut [u64]) -> usize
     requires { n + length (words_of instruction) ≤ length words.old }
     ensures value { result ≡ n + length (words_of instruction) }
@@ -33,109 +35,59 @@ fn put_words(instruction: BinaryInstruction, n: usize, words: &mut [u64]) -> usi
 {
     words[n] = program_words::first_word(instruction);
     match program_words::second_word(instruction) {
-        SecondWord::Number(number) => {
+        Some(number) => {
             words[n + 1] = number;
             n + 2
         }
-        SecondWord::Nothing => n + 1,
+        None => n + 1,
     }
 }
 
 // Writes the words of a source, where main's scope runs from start to end, from the first entry on.
-fn write_words(
-    source: &[u8],
-    kinds: &[u8],
-    mapped: &[bool],
-    starts: &[usize],
-    lengths: &[usize],
-    addresses: &[u64],
-    chains: &[u16],
-    start: usize,
-    end: usize,
-    words: &mut [u64],
-)
-    requires start_le_end { (start ≤ end) × (end ≤ length source.now) }
-    requires end_in_bounds { length (held_words source.now (chained_address source.now (entries_of kinds.now mapped.now starts.now lengths.now addresses.now) chains.now) (sorted_instructions source.now start end)) ≤ length words.old }
-    ensures { words.new ≡ sets words.old 0 (held_words source.now (chained_address source.now (entries_of kinds.now mapped.now starts.now lengths.now addresses.now) chains.now) (sorted_instructions source.now start end)) }
+#[tactic(auto, using(crate::proofs::WriteLaws::write_laws))]
+fn write_words(table: &ChainedTable, start: usize, end: usize, words: &mut [u64])
+    requires start_le_end { (start ≤ end) × (end ≤ length table.now.source.now) }
+    requires end_in_bounds { length (held_words table.now.source.now (by_chains table.now) (sorted_instructions table.now.source.now start end)) ≤ length words.old }
+    ensures { words.new ≡ sets words.old 0 (held_words table.now.source.now (by_chains table.now) (sorted_instructions table.now.source.now start end)) }
 {
     let mut at: usize = 0;
     let mut written: usize = 0;
-    while at < source.len() {
-        let line = encoder_lines::canonical_at(
-            source, kinds, mapped, starts, lengths, addresses, chains, start, end, at,
-        );
-        let found = line.found;
-        at = line.next;
-        match found {
-            CanonicalLine::Is(instruction) => {
-                written = put_words(instruction, written, words);
-            }
-            _ => {}
+    // Each line tells where the next one starts.
+    while at < table.source.len() {
+        let CanonicalAt { found, next } = encoder_lines::canonical_at(table, start, end, at);
+        at = next;
+        if let Ok(Some(instruction)) = found {
+            written = put_words(instruction, written, words);
         }
     }
 }
 
 // The counts of an accepted source, whose hosts are written.
-fn counts(layout: Layout, count: usize, hosts: &[u64]) -> Assembly
+fn counts(layout: Layout, count: usize, hosts: &[u64]) -> Result<Totals, AssembleRefusal>
     requires { count ≤ length hosts.now }
-    ensures { result ≡ Assembled (record { labels = layout.labels; words = layout.words; hosts = count; kept = kept_count (take count hosts.now) }) }
+    ensures { result ≡ Ok (record { labels = layout.labels; words = layout.words; hosts = count; kept = kept_count (take count hosts.now) }) }
 {
     encoder_counts::totals(layout, &hosts[..count])
 }
 
 // Refusals 8 to 13 and 25, and else the words and hosts, of a source whose label table is filled and chained.
 fn encode_filled(
-    source: &[u8],
+    table: &ChainedTable,
     prophets: &[u8],
-    kinds: &[u8],
-    mapped: &[bool],
-    starts: &[usize],
-    lengths: &[usize],
-    addresses: &[u64],
-    chains: &[u16],
     room: usize,
     layout: Layout,
     words: &mut [u64],
     hosts: &mut [u64],
-) -> Assembly
-    requires room_value { measured source.now room ≡ ok layout }
-    requires chains_value { chained_address source.now (entries_of kinds.now mapped.now starts.now lengths.now addresses.now) chains.now ≡ looked_in source.now (table_of (layout_rows source.now layout)) }
-    ensures result_value { numbered result ≡ encoded_totals source.now (layout_rows source.now layout) prophets.now (record { entries = room; words = length words.old; hosts = length hosts.old }) }
-    ensures words_after { words.new ≡ words_left (encoded_rows source.now (layout_rows source.now layout) prophets.now (record { entries = room; words = length words.old; hosts = length hosts.old })) words.old }
-    ensures hosts_after { hosts.new ≡ hosts_left (encoded_rows source.now (layout_rows source.now layout) prophets.now (record { entries = room; words = length words.old; hosts = length hosts.old })) hosts.old }
+) -> Result<Totals, AssembleRefusal>
+    requires room_value { measured table.now.source.now room ≡ ok layout }
+    requires chains_value { by_chains table.now ≡ looked_in table.now.source.now (table_of (layout_rows table.now.source.now layout)) }
+    ensures result_value { numbered result ≡ encoded_totals table.now.source.now (layout_rows table.now.source.now layout) prophets.now (record { entries = room; words = length words.old; hosts = length hosts.old }) }
+    ensures words_after { words.new ≡ words_left (encoded_rows table.now.source.now (layout_rows table.now.source.now layout) prophets.now (record { entries = room; words = length words.old; hosts = length hosts.old })) words.old }
+    ensures hosts_after { hosts.new ≡ hosts_left (encoded_rows table.now.source.now (layout_rows table.now.source.now layout) prophets.now (record { entries = room; words = length words.old; hosts = length hosts.old })) hosts.old }
 {
-    let found = encoder_checks::check_all(
-        source,
-        prophets,
-        kinds,
-        mapped,
-        starts,
-        lengths,
-        addresses,
-        chains,
-        layout,
-        words.len(),
-        hosts.len(),
-    );
-    let count = match found {
-        Checked::Refused(refusal) => return Assembly::Refused(refusal),
-        Checked::Is(n) => n,
-    };
-    write_words(
-        source,
-        kinds,
-        mapped,
-        starts,
-        lengths,
-        addresses,
-        chains,
-        layout.start,
-        layout.end,
-        words,
-    );
-    relocate_prophets::write_hosts(
-        source, prophets, kinds, mapped, starts, lengths, addresses, chains, hosts,
-    );
+    let count = encoder_checks::check_all(table, prophets, layout, words.len(), hosts.len())?;
+    write_words(table, layout.start, layout.end, words);
+    relocate_prophets::write_hosts(table, prophets, hosts);
     counts(layout, count, hosts)
 }
 
@@ -143,55 +95,41 @@ fn encode_filled(
 fn encode_chained(
     source: &[u8],
     prophets: &[u8],
-    kinds: &[u8],
-    mapped: &[bool],
-    starts: &[usize],
-    lengths: &[usize],
-    addresses: &[u64],
+    columns: &Columns,
     room: usize,
     layout: Layout,
     words: &mut [u64],
     hosts: &mut [u64],
-) -> Assembly
+) -> Result<Totals, AssembleRefusal>
     requires room_value { measured source.now room ≡ ok layout }
-    requires addresses_value { entries_of kinds.now mapped.now starts.now lengths.now addresses.now ≡ table_of (layout_rows source.now layout) }
+    requires addresses_value { entries_in columns.now ≡ table_of (layout_rows source.now layout) }
     ensures result_value { numbered result ≡ encoded_totals source.now (layout_rows source.now layout) prophets.now (record { entries = room; words = length words.old; hosts = length hosts.old }) }
     ensures words_after { words.new ≡ words_left (encoded_rows source.now (layout_rows source.now layout) prophets.now (record { entries = room; words = length words.old; hosts = length hosts.old })) words.old }
     ensures hosts_after { hosts.new ≡ hosts_left (encoded_rows source.now (layout_rows source.now layout) prophets.now (record { entries = room; words = length words.old; hosts = length hosts.old })) hosts.old }
 {
     let mut chains = [0u16; 22870];
-    relocate_chains::chain_names(
+    relocate_chains::chain_names(source, columns, &mut chains);
+    let table = ChainedTable {
         source,
-        kinds,
-        mapped,
-        starts,
-        lengths,
-        addresses,
-        &mut chains,
-    );
-    encode_filled(
-        source, prophets, kinds, mapped, starts, lengths, addresses, &chains, room, layout, words,
-        hosts,
-    )
+        columns: *columns,
+        chains: &chains,
+    };
+    encode_filled(&table, prophets, room, layout, words, hosts)
 }
 
 // The same, where the table's slices may have more entries than the source has label rows.
 fn encode_table(
     source: &[u8],
     prophets: &[u8],
-    kinds: &[u8],
-    mapped: &[bool],
-    starts: &[usize],
-    lengths: &[usize],
-    addresses: &[u64],
+    columns: &Columns,
     room: usize,
     layout: Layout,
     words: &mut [u64],
     hosts: &mut [u64],
-) -> Assembly
+) -> Result<Totals, AssembleRefusal>
     requires room_value { measured source.now room ≡ ok layout }
-    requires labels_in_bounds { (layout.labels ≤ length kinds.now) × (layout.labels ≤ length mapped.now) × (layout.labels ≤ length starts.now) × (layout.labels ≤ length lengths.now) × (layout.labels ≤ length addresses.now) }
-    requires addresses_value { entries_of (take layout.labels kinds.now) (take layout.labels mapped.now) (take layout.labels starts.now) (take layout.labels lengths.now) (take layout.labels addresses.now) ≡ table_of (layout_rows source.now layout) }
+    requires labels_in_bounds { (layout.labels ≤ length columns.now.kinds.now) × (layout.labels ≤ length columns.now.mapped.now) × (layout.labels ≤ length columns.now.starts.now) × (layout.labels ≤ length columns.now.lengths.now) × (layout.labels ≤ length columns.now.addresses.now) }
+    requires addresses_value { entries_of (take layout.labels columns.now.kinds.now) (take layout.labels columns.now.mapped.now) (take layout.labels columns.now.starts.now) (take layout.labels columns.now.lengths.now) (take layout.labels columns.now.addresses.now) ≡ table_of (layout_rows source.now layout) }
     ensures result_value { numbered result ≡ encoded_totals source.now (layout_rows source.now layout) prophets.now (record { entries = room; words = length words.old; hosts = length hosts.old }) }
     ensures words_after { words.new ≡ words_left (encoded_rows source.now (layout_rows source.now layout) prophets.now (record { entries = room; words = length words.old; hosts = length hosts.old })) words.old }
     ensures hosts_after { hosts.new ≡ hosts_left (encoded_rows source.now (layout_rows source.now layout) prophets.now (record { entries = room; words = length words.old; hosts = length hosts.old })) hosts.old }
@@ -200,11 +138,13 @@ fn encode_table(
     encode_chained(
         source,
         prophets,
-        &kinds[..n],
-        &mapped[..n],
-        &starts[..n],
-        &lengths[..n],
-        &addresses[..n],
+        &Columns {
+            kinds: &columns.kinds[..n],
+            mapped: &columns.mapped[..n],
+            starts: &columns.starts[..n],
+            lengths: &columns.lengths[..n],
+            addresses: &columns.addresses[..n],
+        },
         room,
         layout,
         words,
@@ -226,7 +166,7 @@ pub fn assemble_parts(
     addresses: &mut [u64],
     words: &mut [u64],
     hosts: &mut [u64],
-) -> Assembly
+) -> Result<Totals, AssembleRefusal>
     ensures result_value { numbered result ≡ assembled_totals source.now prophets.now (record { entries = shortest_of (length kinds.old) (length mapped.old) (length starts.old) (length lengths.old) (length addresses.old); words = length words.old; hosts = length hosts.old }) }
     ensures kinds_after { kinds.new ≡ column_left (tabled source.now (shortest_of (length kinds.old) (length mapped.old) (length starts.old) (length lengths.old) (length addresses.old))) kind_of kinds.old }
     ensures mapped_after { mapped.new ≡ column_left (tabled source.now (shortest_of (length kinds.old) (length mapped.old) (length starts.old) (length lengths.old) (length addresses.old))) mapped_of mapped.old }
@@ -243,14 +183,15 @@ pub fn assemble_parts(
         lengths.len(),
         addresses.len(),
     );
-    let found = relocate_table::label_table(source, kinds, mapped, starts, lengths, addresses);
-    let layout = match found {
-        Measured::Refused(refusal) => {
-            return Assembly::Refused(AssembleRefusal::Relocate(refusal));
-        }
-        Measured::Is(l) => l,
+    let layout = relocate_table::label_table(
+        source, kinds, mapped, starts, lengths, addresses,
+    ).map_err(AssembleRefusal::Relocate)?;
+    let columns = Columns {
+        kinds,
+        mapped,
+        starts,
+        lengths,
+        addresses,
     };
-    encode_table(
-        source, prophets, kinds, mapped, starts, lengths, addresses, room, layout, words, hosts,
-    )
+    encode_table(source, prophets, &columns, room, layout, words, hosts)
 }

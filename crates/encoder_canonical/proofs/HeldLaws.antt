@@ -1,9 +1,9 @@
 -- With the label table of sorted rows, a row made canonical by the table is the row made canonical by the sorted rows.
+use Rattle.std.specs.Prelude.{Option, Some, None, Result, Ok, Err}
 use Prim.Native.Nat.{ℕ, suc}
 use mathlib.Core.Path.{◌≡◌, refl, ap, ◌∙◌}
 use mathlib.Core.List.{List, [], ◌∷◌}
 use mathlib.Core.Bool.{Bool, true, false, cond}
-use mathlib.Core.Option.{Option, none, some}
 use Rattle.text.specs.Answer.{Answer, ok, refused, ◌>>=◌, ◌>>◌, refuse_at}
 use Rattle.text.proofs.AnswerLaws.{not_ok, ok_same}
 use Rattle.vm_opcodes.specs.Operations.{row_places}
@@ -24,42 +24,40 @@ use Rattle.program.specs.Instructions.{made}
 use Rattle.program.specs.declared.BinaryInstruction.{BinaryInstruction}
 use Rattle.encoder.specs.Canonical.{Names, names_of, holder_of, looked_up, plain, has_bracket, general, anchored, memory, canonical_by, canonical_of, canonical_from}
 use Rattle.encoder_canonical.specs.Held.{held_number, held_plain, together, held_general, held_anchored, held_memory, held_by, held_canonical, canonical_numbered, held_program}
-use Rattle.encoder_canonical.specs.declared.Resolved.{Resolved}
-use Rattle.encoder_canonical.specs.declared.Resolved.TheVariants.{Is, Unknown}
-use Rattle.encoder_canonical.specs.declared.Canonical.{Canonical}
-use Rattle.encoder_canonical.specs.declared.Canonical.TheVariants.{Is as Made, Unknown as NameUnknown, Misused, Bracketed}
+use Rattle.encoder_canonical.specs.declared.CanonicalRefusal.{CanonicalRefusal}
+use Rattle.encoder_canonical.specs.declared.CanonicalRefusal.TheVariants.{Unknown, Misused, Bracketed}
 
 -- 10, at instruction k
-abbrev resolved_numbered : ℕ → Resolved → Answer OlaOperand
-resolved_numbered k (Is c) = ok c
-resolved_numbered k Unknown = refused 10 k
+abbrev resolved_numbered : ℕ → Option OlaOperand → Answer OlaOperand
+resolved_numbered k (Some c) = ok c
+resolved_numbered k None = refused 10 k
 
 -- an accepted row is one that was made
-pub numbered_made : (k : ℕ) (f : Canonical) (b : BinaryInstruction) → canonical_numbered k f ≡ ok b → f ≡ Made b
-numbered_made k (Made c) b e = ap Made (ok_same e)
-numbered_made k NameUnknown b e = absurd (not_ok e)
-numbered_made k Misused b e = absurd (not_ok e)
-numbered_made k Bracketed b e = absurd (not_ok e)
+pub numbered_made : (k : ℕ) (f : Result BinaryInstruction CanonicalRefusal) (b : BinaryInstruction) → canonical_numbered k f ≡ ok b → f ≡ Ok b
+numbered_made k (Ok c) b e = ap Ok (ok_same e)
+numbered_made k (Err Unknown) b e = absurd (not_ok e)
+numbered_made k (Err Misused) b e = absurd (not_ok e)
+numbered_made k (Err Bracketed) b e = absurd (not_ok e)
 
 -- three places together
 abbrev in_turn : OlaOpcode → Answer OlaOperand → Answer OlaOperand → Answer OlaOperand → Answer BinaryInstruction
 in_turn o op0 op1 dst = op0 >>= λ a. op1 >>= λ b. dst >>= λ d. ok (made o a b d)
 
 -- brackets answer first
-numbered_bracketed : (k : ℕ) (t : Bool) (c : Canonical) (x : Answer BinaryInstruction) → canonical_numbered k c ≡ x
-    → canonical_numbered k (cond t Bracketed c) ≡ (refuse_at (cond t (some k) none) 25 >> x)
+numbered_bracketed : (k : ℕ) (t : Bool) (c : Result BinaryInstruction CanonicalRefusal) (x : Answer BinaryInstruction) → canonical_numbered k c ≡ x
+    → canonical_numbered k (cond t (Err Bracketed) c) ≡ (refuse_at (cond t (Some k) None) 25 >> x)
 unfolding ◌>>◌ refuse_at
 numbered_bracketed k true c x e = refl
 numbered_bracketed k false c x e = e
 
 -- the first unknown place answers
-numbered_together : (k : ℕ) (o : OlaOpcode) (p q r : Resolved)
+numbered_together : (k : ℕ) (o : OlaOpcode) (p q r : Option OlaOperand)
     → canonical_numbered k (together o p q r) ≡ in_turn o (resolved_numbered k p) (resolved_numbered k q) (resolved_numbered k r)
 unfolding ◌>>=◌
-numbered_together k o (Is a) (Is b) (Is d) = refl
-numbered_together k o (Is a) (Is b) Unknown = refl
-numbered_together k o (Is a) Unknown r = refl
-numbered_together k o Unknown q r = refl
+numbered_together k o (Some a) (Some b) (Some d) = refl
+numbered_together k o (Some a) (Some b) None = refl
+numbered_together k o (Some a) None r = refl
+numbered_together k o None q r = refl
 
 -- a memory operand
 numbered_anchored : (k : ℕ) (o : OlaOpcode) (x : OlaAsmOperand) (value : OlaOperand) → canonical_numbered k (held_anchored o x value) ≡ anchored k o x value
@@ -91,8 +89,8 @@ module _ (s : List ℕ) (rows : List AsmRow) where
   module _ (k : ℕ) where
     -- a name that was looked up
     numbered_found : (found : Option LabelRow) → resolved_numbered k (held_number (found_by (λ l. address_of (instructions rows) l.marks) found)) ≡ looked_up names k found
-    numbered_found none = refl
-    numbered_found (some l) = refl
+    numbered_found None = refl
+    numbered_found (Some l) = refl
 
     -- one place
     numbered_plain : (x : OlaAsmOperand) → resolved_numbered k (held_plain s (looked_in s (table_of rows)) x) ≡ plain names k x

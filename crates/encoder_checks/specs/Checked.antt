@@ -1,17 +1,16 @@
 -- Refusals 8 to 13 and 25 by the label table, in their order.
-use Rattle.std.specs.Prelude.{ℕ, List, ◌||◌, ltb}
+use Rattle.std.specs.Prelude.{ℕ, List, ◌||◌, ltb, Result, Ok, Err}
 use Rattle.text.specs.Answer.{Answer, ok, refused, ◌>>=◌, ◌>>◌, refuse_if}
 use Rattle.relocate.specs.Layout.{sorted_instructions}
 use Rattle.relocate.specs.Columns.{LookUp, held_hosts, host_count}
 use Rattle.relocate.specs.declared.Layout.{Layout}
 use Rattle.encoder.specs.Assemble.{assemble_number, assemble_detail}
 use Rattle.encoder_walks.specs.Walks.{held_passed}
-use Rattle.encoder_checks.specs.declared.Checked.{Checked}
-use Rattle.encoder_checks.specs.declared.Checked.TheVariants.{Is, Refused}
+use Rattle.encoder.specs.declared.AssembleRefusal.{AssembleRefusal}
 
-abbrev pub checked_numbered : Checked → Answer ℕ
-checked_numbered (Is n) = ok n
-checked_numbered (Refused f) = refused (assemble_number f) (assemble_detail f)
+abbrev pub checked_numbered : Result ℕ AssembleRefusal → Answer ℕ
+checked_numbered (Ok n) = ok n
+checked_numbered (Err f) = refused (assemble_number f) (assemble_detail f)
 
 -- 10, 11 and 25, then 12, then 13, where so many prophets are listed
 unfoldable pub rows_checked : List ℕ → LookUp → Layout → ℕ → ℕ → ℕ → Answer ℕ

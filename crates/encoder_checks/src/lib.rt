@@ -2,79 +2,44 @@
 #![tactic(auto)]
 
 ghost use Rattle.std.specs.Prelude.{◌≡◌};
-ghost use Rattle.relocate.specs.Columns.{entries_of};
-ghost use Rattle.relocate_chains.specs.Chains.{chained_address};
+ghost use Rattle.relocate_chains.specs.ByChains.{by_chains};
 ghost use Rattle.encoder_checks.specs.Checked.{checked_numbered, rows_checked, checked_of};
 
 use encoder::AssembleRefusal;
-use encoder_walks::Resolution;
-use relocate::{Layout, ProphetsListed};
-
-// How many prophets are listed, where refusals 8 to 13 and 25 turn nothing away.
-#[derive(Clone, Copy)]
-pub enum Checked {
-    Is(usize),
-    Refused(AssembleRefusal),
-}
+use relocate::Layout;
+use relocate_chains::ChainedTable;
 
 // Refusals 10 to 13 and 25 of a source whose label table is filled and whose list names so many prophets.
+#[tactic(auto, using(crate::proofs::StageLaws::rows_laws))]
 fn check_rows(
-    source: &[u8],
-    kinds: &[u8],
-    mapped: &[bool],
-    starts: &[usize],
-    lengths: &[usize],
-    addresses: &[u64],
-    chains: &[u16],
+    table: &ChainedTable,
     layout: Layout,
     wordroom: usize,
     hostroom: usize,
     hosts: usize,
-) -> Checked
-    ensures { checked_numbered result ≡ rows_checked source.now (chained_address source.now (entries_of kinds.now mapped.now starts.now lengths.now addresses.now) chains.now) layout wordroom hostroom hosts }
+) -> Result<usize, AssembleRefusal>
+    ensures { checked_numbered result ≡ rows_checked table.now.source.now (by_chains table.now) layout wordroom hostroom hosts }
 {
-    let start = layout.start;
-    let end = layout.end;
-    let resolved = encoder_walks::resolve(
-        source, kinds, mapped, starts, lengths, addresses, chains, start, end,
-    );
-    match resolved {
-        Resolution::Refused(refusal) => return Checked::Refused(refusal),
-        Resolution::Passed => {}
+    encoder_walks::resolve(table, layout.start, layout.end)?;
+    if wordroom < layout.words || hostroom < hosts {
+        return Err(AssembleRefusal::RoomTooShort);
     }
-    if wordroom < layout.words {
-        return Checked::Refused(AssembleRefusal::RoomTooShort);
-    }
-    if hostroom < hosts {
-        return Checked::Refused(AssembleRefusal::RoomTooShort);
-    }
-    Checked::Is(hosts)
+    Ok(hosts)
 }
 
 // Refusals 8 to 13 and 25 of a source whose label table is filled.
+#[tactic(auto, using(crate::proofs::StageLaws::list_laws))]
 pub fn check_all(
-    source: &[u8],
+    table: &ChainedTable,
     prophets: &[u8],
-    kinds: &[u8],
-    mapped: &[bool],
-    starts: &[usize],
-    lengths: &[usize],
-    addresses: &[u64],
-    chains: &[u16],
     layout: Layout,
     wordroom: usize,
     hostroom: usize,
-) -> Checked
-    ensures { checked_numbered result ≡ checked_of source.now prophets.now (chained_address source.now (entries_of kinds.now mapped.now starts.now lengths.now addresses.now) chains.now) layout wordroom hostroom }
+) -> Result<usize, AssembleRefusal>
+    ensures { checked_numbered result ≡ checked_of table.now.source.now prophets.now (by_chains table.now) layout wordroom hostroom }
 {
-    let listed = relocate_prophets::check_prophets(
-        source, prophets, kinds, mapped, starts, lengths, addresses, chains,
-    );
-    match listed {
-        ProphetsListed::Refused(refusal) => { Checked::Refused(AssembleRefusal::Relocate(refusal)) }
-        ProphetsListed::Is(hosts) => check_rows(
-            source, kinds, mapped, starts, lengths, addresses, chains, layout, wordroom, hostroom,
-            hosts,
-        ),
-    }
+    let hosts = relocate_prophets::check_prophets(table, prophets).map_err(
+        AssembleRefusal::Relocate,
+    )?;
+    check_rows(table, layout, wordroom, hostroom, hosts)
 }

@@ -5,7 +5,7 @@ ghost use Rattle.std.specs.Prelude.{◌≡◌, length};
 ghost use Rattle.relocate.specs.Columns.{table_left};
 ghost use Rattle.encoder.specs.Assemble.{numbered, assembled, assembled_totals, words_left, hosts_left};
 
-use encoder::Assembly;
+use encoder::{AssembleRefusal, Totals};
 use relocate::LabelEntry;
 
 // Assembles a source with a prophet list: the label table, the words and the hosts.
@@ -18,13 +18,14 @@ pub fn assemble(
     table: &mut [LabelEntry],
     words: &mut [u64],
     hosts: &mut [u64],
-) -> Assembly
+) -> Result<Totals, AssembleRefusal>
     ensures result_value { numbered result ≡ assembled_totals source.now prophets.now (record { entries = length table.old; words = length words.old; hosts = length hosts.old }) }
     ensures table_after { table.new ≡ table_left source.now table.old }
     ensures words_after { words.new ≡ words_left (assembled source.now prophets.now (record { entries = length table.old; words = length words.old; hosts = length hosts.old })) words.old }
     ensures hosts_after { hosts.new ≡ hosts_left (assembled source.now prophets.now (record { entries = length table.old; words = length words.old; hosts = length hosts.old })) hosts.old }
 {
     let assembly = encoder_room::assemble_room(source, prophets, table.len(), words, hosts);
-    relocate_entries::label_entries(source, table);
+    // What refuses a table here has refused it there.
+    let _ = relocate_entries::label_entries(source, table);
     assembly
 }

@@ -1,4 +1,5 @@
 -- Laws of printing what assembling answered, and of printing a source, in the shapes in which the functions ask for them.
+use Rattle.std.specs.Prelude.{Option, Some, Result, Ok, Err}
 use Prim.Native.Nat.{ℕ, ◌<◌, ◌≤◌}
 use mathlib.Core.Path.{◌≡◌, refl, sym, ap, ◌∙◌}
 use mathlib.Core.List.{List, [], ◌++◌}
@@ -16,34 +17,30 @@ use Rattle.encoder.specs.Assemble.{Room, Accepted, assemble_number, assemble_det
 use Rattle.encoder.specs.Printing.{reported, printing, printing_room}
 use Rattle.encoder.specs.declared.AssembleRefusal.{AssembleRefusal}
 use Rattle.encoder.specs.declared.Totals.{Totals}
-use Rattle.encoder.specs.declared.Assembly.{Assembly}
-use Rattle.encoder.specs.declared.Assembly.TheVariants.{Refused, Assembled}
 use Rattle.encoder_report.specs.Printed.{printed_numbered, printed_count, printed_into, reported_words}
-use Rattle.encoder_report.specs.declared.Printed.{Printed}
-use Rattle.encoder_report.specs.declared.Printed.TheVariants.{Is}
 use Rattle.encoder_print.specs.Reported.{word_count, reported_assembly}
 
 -- ---- print_assembly: d is the text
-module _ (found : Assembly) (words d : List ℕ) where
-  module _ (refusal : AssembleRefusal) (e : found ≡ Refused refusal) (n m : ℕ) (f : n ≡ assemble_number refusal) (g : m ≡ assemble_detail refusal) where
+module _ (found : Result Totals AssembleRefusal) (words d : List ℕ) where
+  module _ (refusal : AssembleRefusal) (e : found ≡ Err refusal) (n m : ℕ) (f : n ≡ assemble_number refusal) (g : m ≡ assemble_detail refusal) where
     -- a refusal's report is by its number and detail
     refused_report_lem : reported (refused n m) ≡ reported_assembly found words
     refused_report_lem = rw (e, f, g)
 
-    pub refused_counted : (r : Printed) → printed_numbered r ≡ printed_count (length d) (reported (refused n m)) → printed_numbered r ≡ printed_count (length d) (reported_assembly found words)
+    pub refused_counted : (r : Option ℕ) → printed_numbered r ≡ printed_count (length d) (reported (refused n m)) → printed_numbered r ≡ printed_count (length d) (reported_assembly found words)
     refused_counted r h = h ∙ ap (printed_count (length d)) refused_report_lem
 
     pub refused_printed : (b : List ℕ) → b ≡ printed_into (reported (refused n m)) d → b ≡ printed_into (reported_assembly found words) d
     refused_printed b h = h ∙ ap (λ (w : List ℕ). printed_into w d) refused_report_lem
 
-  module _ (totals : Totals) (e : found ≡ Assembled totals) where
+  module _ (totals : Totals) (e : found ≡ Ok totals) where
     accepted_report : reported_words (take totals.words words) ≡ reported_assembly found words
     accepted_report = rw e
 
     pub accepted_part : word_count found ≤ length words → totals.words ≡ length (take totals.words words)
     accepted_part h = sym (length-take-le totals.words words (rw e at h))
 
-    pub accepted_counted : (r : Printed) → printed_numbered r ≡ printed_count (length d) (reported_words (take totals.words words)) → printed_numbered r ≡ printed_count (length d) (reported_assembly found words)
+    pub accepted_counted : (r : Option ℕ) → printed_numbered r ≡ printed_count (length d) (reported_words (take totals.words words)) → printed_numbered r ≡ printed_count (length d) (reported_assembly found words)
     accepted_counted r h = h ∙ ap (printed_count (length d)) accepted_report
 
     pub accepted_printed : (b : List ℕ) → b ≡ printed_into (reported_words (take totals.words words)) d → b ≡ printed_into (reported_assembly found words) d
@@ -59,21 +56,21 @@ refused_report (ok totals) = []
 refused_report (refused n m) = reported (refused n m)
 
 -- an answer and the words left tell the report of what was assembled
-report_same : (found : Assembly) (a : Answer Accepted) (words : List ℕ) → numbered found ≡ (a >>= λ x. ok (totals_of x)) → reported_assembly found (words_left a words) ≡ reported a
+report_same : (found : Result Totals AssembleRefusal) (a : Answer Accepted) (words : List ℕ) → numbered found ≡ (a >>= λ x. ok (totals_of x)) → reported_assembly found (words_left a words) ≡ reported a
 unfolding ◌>>=◌ on_ok
-report_same (Refused refusal) (refused n m) words e = ap refused_report e
-report_same (Refused refusal) (ok x) words e = absurd (not_ok e)
-report_same (Assembled totals) (refused n m) words e = absurd (not_ok (sym e))
-report_same (Assembled totals) (ok x) words e =
+report_same (Err refusal) (refused n m) words e = ap refused_report e
+report_same (Err refusal) (ok x) words e = absurd (not_ok e)
+report_same (Ok totals) (refused n m) words e = absurd (not_ok (sym e))
+report_same (Ok totals) (ok x) words e =
     ap (λ (t : Totals). reported_words (take t.words (x.words ++ drop (length x.words) words))) (ok_same e)
     ∙ ap reported_words (take_at x.words (drop (length x.words) words) (length x.words) refl)
 
 -- and no more words are counted than are left
-count_within : (found : Assembly) (a : Answer Accepted) (words : List ℕ) → numbered found ≡ (a >>= λ x. ok (totals_of x)) → word_count found ≤ length (words_left a words)
+count_within : (found : Result Totals AssembleRefusal) (a : Answer Accepted) (words : List ℕ) → numbered found ≡ (a >>= λ x. ok (totals_of x)) → word_count found ≤ length (words_left a words)
 unfolding ◌>>=◌ on_ok
-count_within (Refused refusal) a words e = omega arith
-count_within (Assembled totals) (refused n m) words e = absurd (not_ok (sym e))
-count_within (Assembled totals) (ok x) words e =
+count_within (Err refusal) a words e = omega arith
+count_within (Ok totals) (refused n m) words e = absurd (not_ok (sym e))
+count_within (Ok totals) (ok x) words e =
     let z = ap (λ (t : Totals). t.words) (ok_same e) in
     let y = length-append x.words (drop (length x.words) words) in
     omega arith
@@ -89,13 +86,13 @@ module _ (s d : List ℕ) where
     unfolding printing
     long_report = rw (lt-ltb 4096 (length s) h)
 
-    pub long_counted : (r : Printed) → printed_numbered r ≡ printed_count (length d) (reported (refused 1 0)) → printed_numbered r ≡ printed_count (length d) (printing s)
+    pub long_counted : (r : Option ℕ) → printed_numbered r ≡ printed_count (length d) (reported (refused 1 0)) → printed_numbered r ≡ printed_count (length d) (printing s)
     long_counted r e = e ∙ ap (printed_count (length d)) (sym long_report)
 
     pub long_printed : (b : List ℕ) → b ≡ printed_into (reported (refused 1 0)) d → b ≡ printed_into (printing s) d
     long_printed b e = e ∙ ap (λ (w : List ℕ). printed_into w d) (sym long_report)
 
-module _ (s : List ℕ) (room : Room) (found : Assembly) (words left : List ℕ) (e : numbered found ≡ assembled_totals s [] room) (k : left ≡ words_left (assembled s [] room) words) where
+module _ (s : List ℕ) (room : Room) (found : Result Totals AssembleRefusal) (words left : List ℕ) (e : numbered found ≡ assembled_totals s [] room) (k : left ≡ words_left (assembled s [] room) words) where
   -- the words that are counted lie within those that are left
   pub left_within : word_count found ≤ length left
   unfolding assembled_totals
@@ -108,7 +105,7 @@ module _ (s : List ℕ) (room : Room) (found : Assembly) (words left : List ℕ)
     source_report = ap (reported_assembly found) k ∙ report_same found (assembled s [] room) words e ∙ ap (λ (r : Room). reported (assembled s [] r)) g ∙ sym (rw (le-ltb 4096 (length s) h))
 
     -- so what is printed of the answer and of what is left is printed of the source
-    pub source_printed : (r : Printed) (b : List ℕ)
+    pub source_printed : (r : Option ℕ) (b : List ℕ)
         → (printed_numbered r ≡ printed_count (length d) (reported_assembly found left)) × (b ≡ printed_into (reported_assembly found left) d)
         → (printed_numbered r ≡ printed_count (length d) (printing s)) × (b ≡ printed_into (printing s) d)
     source_printed r b f = (f.0 ∙ ap (printed_count (length d)) source_report, f.1 ∙ ap (λ (w : List ℕ). printed_into w d) source_report)
@@ -116,7 +113,7 @@ module _ (s : List ℕ) (room : Room) (found : Assembly) (words left : List ℕ)
 pub ruleset long_laws = (long_counted, long_printed, rules)
 
 -- for a caller: what was printed lies within the room for it
-pub printed_within : (room : ℕ) (w : List ℕ) (r : Printed) (n : ℕ) → printed_numbered r ≡ printed_count room w → r ≡ Is n → n ≤ room
+pub printed_within : (room : ℕ) (w : List ℕ) (r : Option ℕ) (n : ℕ) → printed_numbered r ≡ printed_count room w → r ≡ Some n → n ≤ room
 unfolding printed_count
 printed_within room w r n e f = go (ltb room (length w)) refl (ap printed_numbered (sym f) ∙ e)
   where

@@ -1,18 +1,18 @@
 -- What is reported of what assembling answered.
-use Rattle.std.specs.Prelude.{ℕ, List, take}
+use Rattle.std.specs.Prelude.{ℕ, List, take, Result, Ok, Err}
 use Rattle.text.specs.Answer.{refused}
 use Rattle.encoder.specs.Assemble.{assemble_number, assemble_detail}
 use Rattle.encoder.specs.Printing.{reported}
-use Rattle.encoder.specs.declared.Assembly.{Assembly}
-use Rattle.encoder.specs.declared.Assembly.TheVariants.{Refused, Assembled}
 use Rattle.encoder_report.specs.Printed.{reported_words}
+use Rattle.encoder.specs.declared.AssembleRefusal.{AssembleRefusal}
+use Rattle.encoder.specs.declared.Totals.{Totals}
 
 -- how many words assembling wrote
-abbrev pub word_count : Assembly → ℕ
-word_count (Refused refusal) = 0
-word_count (Assembled totals) = totals.words
+abbrev pub word_count : Result Totals AssembleRefusal → ℕ
+word_count (Err refusal) = 0
+word_count (Ok totals) = totals.words
 
 -- what is reported of an answer, where these are the words that assembling left
-abbrev pub reported_assembly : Assembly → List ℕ → List ℕ
-reported_assembly (Refused refusal) words = reported (refused (assemble_number refusal) (assemble_detail refusal))
-reported_assembly (Assembled totals) words = reported_words (take totals.words words)
+abbrev pub reported_assembly : Result Totals AssembleRefusal → List ℕ → List ℕ
+reported_assembly (Err refusal) words = reported (refused (assemble_number refusal) (assemble_detail refusal))
+reported_assembly (Ok totals) words = reported_words (take totals.words words)

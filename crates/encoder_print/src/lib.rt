@@ -6,30 +6,30 @@ ghost use Rattle.encoder.specs.Printing.{printing};
 ghost use Rattle.encoder_report.specs.Printed.{printed_numbered, printed_count, printed_into};
 ghost use Rattle.encoder_print.specs.Reported.{word_count, reported_assembly};
 
-use encoder::Assembly;
-use encoder_report::Printed;
+use encoder::{AssembleRefusal, Totals};
 
 // Prints the report of what assembling answered, where these are the words that it left.
-fn print_assembly(found: Assembly, words: &[u64], text: &mut [u8]) -> Printed
+fn print_assembly(
+    found: Result<Totals, AssembleRefusal>,
+    words: &[u64],
+    text: &mut [u8],
+) -> Option<usize>
     requires { word_count found ≤ length words.now }
     ensures result_value { printed_numbered result ≡ printed_count (length text.old) (reported_assembly found words.now) }
     ensures text_after { text.new ≡ printed_into (reported_assembly found words.now) text.old }
 {
     match found {
-        Assembly::Refused(refusal) => {
+        Err(refusal) => {
             let number = encoder_refusals::refusal_number(refusal);
             let detail = encoder_refusals::refusal_detail(refusal);
             encoder_report::print_refusal(number, detail, text)
         }
-        Assembly::Assembled(totals) => {
-            let n = totals.words;
-            encoder_report::print_words(&words[..n], text)
-        }
+        Ok(totals) => encoder_report::print_words(&words[..totals.words], text),
     }
 }
 
 // Prints what the printing program prints for a source, or leaves the text as it is where it is too short.
-pub fn print_source(source: &[u8], text: &mut [u8]) -> Printed
+pub fn print_source(source: &[u8], text: &mut [u8]) -> Option<usize>
     ensures result_value { printed_numbered result ≡ printed_count (length text.old) (printing source.now) }
     ensures text_after { text.new ≡ printed_into (printing source.now) text.old }
 {

@@ -1,4 +1,5 @@
 -- Laws of the writers of rows and reports, in the shapes in which the functions ask for them.
+use Rattle.std.specs.Prelude.{Option, Some, None}
 use Prim.Native.Nat.{ℕ, suc, ◌+◌, ◌-◌, ◌*◌, ◌^◌, ◌<◌, ◌≤◌}
 use mathlib.Core.Path.{◌≡◌, refl, sym, ap, ◌∙◌}
 use mathlib.Core.List.{List, [], ◌∷◌, ◌++◌}
@@ -9,8 +10,8 @@ use native.Mathlib.Numerals.{add-one}
 use borrow.Author.Rules.{rules}
 use borrow.Author.Tests.{le-leb, lt-leb, leb-true, leb-false, lt-ltb, le-ltb}
 use lib.Dec.{leb}
-use lib.ListN.{length, get_or, drop, set, length-append, length-set, drop_of_length-le}
-use lib.Seq.{sets, length-sets}
+use lib.ListN.{length, get_or, take, drop, set, length-append, length-set, drop_of_length-le}
+use lib.Seq.{sets, length-sets, length-take-le}
 use mir.Val.{Fits}
 use mir.Syntax.{w64}
 use Rattle.text.proofs.AnswerLaws.{sets_over}
@@ -18,14 +19,13 @@ use Rattle.text.specs.Bytes.{bytes}
 use Rattle.text.specs.Answer.{ok, refused}
 use Rattle.text.proofs.Laws.{drop_next, told_not_true, told_not_false}
 use Rattle.text_write.specs.Digits.{decimal_text}
-use Rattle.text_write.specs.Put.{put_into}
-use Rattle.text_write.proofs.Laws.{sets_append, put_fits, length_put, decimal_most}
+use Rattle.text_write.specs.Put.{put_count, put_into}
+use Rattle.text_write.proofs.Laws.{sets_append, put_fits, put_over, put_row, length_put, count_told, fits_told, over_told, decimal_most}
 use Rattle.program_bytecode.specs.Left.{line_text, asks_number}
 use Rattle.program_bytecode.proofs.Laws.{line_most}
 use Rattle.encoder.specs.Printing.{two_fields, reported}
 use Rattle.encoder_report.specs.Left.{row_text, rows_left}
 use Rattle.encoder_report.specs.Printed.{printed_numbered, printed_count, printed_into, reported_words}
-use Rattle.encoder_report.specs.declared.Printed.TheVariants.{Is, TextTooShort}
 use Rattle.encoder_report.proofs.LeftLaws.{numbered_left}
 
 -- ---- two fields: a, a space, b, a line feed
@@ -36,7 +36,7 @@ two_long a b =
     let x = length-append ((a ++ (32 ∷ [])) ++ b) (10 ∷ []) in
     omega arith
 
--- write_row and write_pair: d is the text, u what it holds when a is written, v when b is
+-- two fields, a space between them and a line feed behind: d is the text, u what it holds when a is written, v when b is
 module _ (d a b : List ℕ) (at : ℕ) (h : at + length a + length b + 2 ≤ length d) where
   pub first_within : at + length a ≤ length d
   first_within = omega arith
@@ -198,13 +198,13 @@ module _ (d s : List ℕ) (t : Bool) (e : t ≡ leb (13 + length (rows_left 0 fa
   words_fit : not t ≡ false → length (reported_words s) ≤ length d
   words_fit h = let z = reported_long s in let y = leb-true (13 + length (rows_left 0 false s)) (length d) (told_not_false t _ e h) in omega arith
 
-  pub words_short : not t ≡ true → printed_numbered TextTooShort ≡ printed_count (length d) (reported_words s)
+  pub words_short : not t ≡ true → printed_numbered None ≡ printed_count (length d) (reported_words s)
   words_short h = short_count d (reported_words s) (words_over h)
 
   pub words_kept : not t ≡ true → d ≡ printed_into (reported_words s) d
   words_kept h = short_kept d (reported_words s) (words_over h)
 
-  pub words_counted : (n : ℕ) → not t ≡ false → n ≡ 13 + length (rows_left 0 false s) → printed_numbered (Is n) ≡ printed_count (length d) (reported_words s)
+  pub words_counted : (n : ℕ) → not t ≡ false → n ≡ 13 + length (rows_left 0 false s) → printed_numbered (Some n) ≡ printed_count (length d) (reported_words s)
   words_counted n h f = ap ok (f ∙ sym (reported_long s)) ∙ room_count d (reported_words s) (words_fit h)
 
   module _ (u : List ℕ) (f : u ≡ put_into d 0 (two_fields (bytes "address") (bytes "word"))) where
@@ -231,33 +231,43 @@ refusal_long n m =
     omega arith
 
 module _ (d : List ℕ) (n m : ℕ) where
-  -- a refusal's report has at most 57 bytes
-  pub refusal_within : n < 2 ^ 64 → m < 2 ^ 64 → length d ≡ 57 → 15 + length (decimal_text n) + length (decimal_text m) + 2 ≤ length d
-  refusal_within h k l =
-      let z = decimal_most n h in
-      let y = decimal_most m k in
-      omega arith
-
   module _ (u : List ℕ) (h : 15 + length (decimal_text n) + length (decimal_text m) + 2 ≤ length d) (f : u ≡ put_into d 0 (two_fields (bytes "refusal") (bytes "detail"))) where
     pub refusal_stored : (b : List ℕ) → b ≡ sets u 15 (two_fields (decimal_text n) (decimal_text m)) → b ≡ sets d 0 (reported (refused n m))
     refusal_stored b g = g ∙ head_stored d u refusal_head (two_fields (decimal_text n) (decimal_text m)) f (let z = refusal_long n m in omega arith)
 
 pub ruleset refusal_laws = (refusal_stored, rules)
 
-module _ (d : List ℕ) (n m k : ℕ) (e : k ≡ length (reported (refused n m))) where
-  pub refusal_short : length d < k → printed_numbered TextTooShort ≡ printed_count (length d) (reported (refused n m))
-  refusal_short h = short_count d (reported (refused n m)) (omega arith)
+-- ---- print_refusal
 
-  pub refusal_kept : length d < k → d ≡ printed_into (reported (refused n m)) d
-  refusal_kept h = short_kept d (reported (refused n m)) (omega arith)
+-- a refusal's report has at most 57 bytes
+pub refusal_within : (n m : ℕ) → n < 2 ^ 64 → m < 2 ^ 64 → 15 + length (decimal_text n) + length (decimal_text m) + 2 ≤ 57
+refusal_within n m h k = omega (arith, decimal_most n h, decimal_most m k)
 
-  pub refusal_inside : k ≤ length d → 15 + length (decimal_text n) + length (decimal_text m) + 2 ≤ length d
-  refusal_inside h = let z = refusal_long n m in omega arith
+-- u is a local text of 57 bytes with the report at its start, of k bytes; d is the text that it is put into
+module _ (n m k : ℕ) (u : List ℕ) (h : n < 2 ^ 64) (l : m < 2 ^ 64) (e : k ≡ length (reported (refused n m))) where
+  pub refusal_inside : length u ≡ 57 → k ≤ length u
+  refusal_inside f =
+      let z = refusal_long n m in
+      let y = refusal_within n m h l in
+      omega arith
 
-  pub refusal_counted : k ≤ length d → printed_numbered (Is k) ≡ printed_count (length d) (reported (refused n m))
-  refusal_counted h = ap ok e ∙ room_count d (reported (refused n m)) (omega arith)
+  pub taken_long : length u ≡ 57 → k ≡ length (take k u)
+  taken_long f = sym (length-take-le k u (refusal_inside f))
 
-  pub refusal_printed : (b : List ℕ) → k ≤ length d → b ≡ sets d 0 (reported (refused n m)) → b ≡ printed_into (reported (refused n m)) d
-  refusal_printed b h g = g ∙ room_stored d (reported (refused n m)) (omega arith)
+  pub refusal_taken : (c : List ℕ) → length c ≡ 57 → u ≡ sets c 0 (reported (refused n m)) → take k u ≡ reported (refused n m)
+  refusal_taken c f g =
+      let z = refusal_long n m in
+      let y = refusal_within n m h l in
+      let w = put_fits c 0 (reported (refused n m)) (omega arith) in
+      ap (λ (j : ℕ). take j u) (e ∙ sym (zero-add (length (reported (refused n m))))) ∙ put_row c 0 (reported (refused n m)) (omega arith) u (g ∙ sym w)
 
-pub ruleset print_laws = (refusal_within, refusal_short, refusal_kept, refusal_inside, refusal_counted, refusal_printed, rules)
+module _ (d w v : List ℕ) (e : v ≡ w) where
+  pub put_printed : (r : Option ℕ) → r ≡ put_count d 0 v → printed_numbered r ≡ printed_count (length d) w
+  put_printed (Some n) f = let k = fits_told d 0 v (Some n) f n refl in ap ok (count_told d 0 v (Some n) f n refl ∙ ap length e) ∙ room_count d w (let z = ap length e in omega arith)
+  put_printed None f = let k = over_told d 0 v None f refl in short_count d w (let z = ap length e in omega arith)
+
+  pub put_stored : (r : Option ℕ) → r ≡ put_count d 0 v → (b : List ℕ) → b ≡ put_into d 0 v → b ≡ printed_into w d
+  put_stored (Some n) f b g = let k = fits_told d 0 v (Some n) f n refl in g ∙ put_fits d 0 v k ∙ ap (sets d 0) e ∙ room_stored d w (let z = ap length e in omega arith)
+  put_stored None f b g = let k = over_told d 0 v None f refl in g ∙ put_over d 0 v k ∙ short_kept d w (let z = ap length e in omega arith)
+
+pub ruleset print_laws = (refusal_within, refusal_inside, refusal_taken, put_printed, put_stored, taken_long, rules)

@@ -1,9 +1,9 @@
 -- The rows that a writer has left to write before its first word are the numbered lines of the words.
+use Rattle.std.specs.Prelude.{None}
 use Prim.Native.Nat.{ℕ, suc}
 use mathlib.Core.Path.{◌≡◌, refl, ap, ◌∙◌}
 use mathlib.Core.List.{List, [], ◌∷◌, ◌++◌}
 use mathlib.Core.Bool.{Bool, false}
-use mathlib.Core.Option.{none}
 use Rattle.program.specs.Bytecode.{word_lines}
 use Rattle.program_bytecode.specs.Left.{asks_number}
 use Rattle.program_bytecode.proofs.LeftLaws.{lines_from, lines_left}
@@ -18,4 +18,4 @@ numbered_from k number (w ∷ ws) = ap (λ (s : List ℕ). row_text k number w +
 
 -- the numbered lines of words are the rows that are left before the first of them
 pub numbered_left : (ws : List ℕ) → numbered_lines 0 (word_lines ws) ≡ rows_left 0 false ws
-numbered_left ws = ap (numbered_lines 0) (lines_left none ws) ∙ numbered_from 0 false ws
+numbered_left ws = ap (numbered_lines 0) (lines_left None ws) ∙ numbered_from 0 false ws

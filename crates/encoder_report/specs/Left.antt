@@ -3,6 +3,13 @@ use Rattle.std.specs.Prelude.{ℕ, suc, List, [], ◌∷◌, ◌++◌, Bool}
 use Rattle.text_write.specs.Digits.{decimal_text}
 use Rattle.program_bytecode.specs.Left.{line_text, asks_number}
 use Rattle.encoder.specs.Printing.{two_fields}
+use Rattle.encoder_report.specs.declared.Field.{Field}
+use Rattle.encoder_report.specs.declared.Field.TheVariants.{Decimal, Line}
+
+-- what stands in a field
+abbrev pub field_text : Field → List ℕ
+field_text (Decimal n) = decimal_text n
+field_text (Line number w) = line_text number w
 
 -- "decimal position of each word, and the word as the bytecode text prints it", at position k
 abbrev pub row_text : ℕ → Bool → ℕ → List ℕ

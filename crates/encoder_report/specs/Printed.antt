@@ -1,16 +1,14 @@
 -- What printing a report answers, and what it leaves in the text that it was lent.
-use Rattle.std.specs.Prelude.{ℕ, List, ◌++◌, cond, ltb, length}
+use Rattle.std.specs.Prelude.{ℕ, List, ◌++◌, cond, ltb, length, Option, Some, None}
 use Rattle.text.specs.Bytes.{bytes}
 use Rattle.text.specs.Answer.{Answer, ok, refused, over}
 use Rattle.program.specs.Bytecode.{word_lines}
 use Rattle.encoder.specs.Printing.{two_fields, numbered_lines}
-use Rattle.encoder_report.specs.declared.Printed.{Printed}
-use Rattle.encoder_report.specs.declared.Printed.TheVariants.{Is, TextTooShort}
 
 -- the count of bytes, or "23 the lent text is too short"
-abbrev pub printed_numbered : Printed → Answer ℕ
-printed_numbered (Is n) = ok n
-printed_numbered TextTooShort = refused 23 0
+abbrev pub printed_numbered : Option ℕ → Answer ℕ
+printed_numbered (Some n) = ok n
+printed_numbered None = refused 23 0
 
 -- the answer for a report and a text of so many bytes
 unfoldable pub printed_count : ℕ → List ℕ → Answer ℕ

@@ -1,4 +1,5 @@
 -- A table that has an entry for every label row that the source can have is as good as any longer one.
+use Rattle.std.specs.Prelude.{Result}
 use Prim.Native.Nat.{ℕ, ◌*◌, ◌+◌, ◌≤◌, min}
 use mathlib.Core.Path.{◌≡◌, refl, sym, ap, ◌∙◌}
 use mathlib.Core.List.{List}
@@ -14,8 +15,9 @@ use Rattle.relocate.specs.Relocate.{sorted_of, tabled}
 use Rattle.relocate_laws.proofs.LengthLaws.{sorted_length}
 use Rattle.relocate_names.specs.Shortest.{shortest_of}
 use Rattle.encoder.specs.Assemble.{Accepted, numbered, totals_of, encoded_rows, assembled, assembled_totals, words_left, hosts_left}
-use Rattle.encoder.specs.declared.Assembly.{Assembly}
 use Rattle.encoder_assemble.proofs.LabelLaws.{label_bytes}
+use Rattle.encoder.specs.declared.AssembleRefusal.{AssembleRefusal}
+use Rattle.encoder.specs.declared.Totals.{Totals}
 
 -- the same refusals with a room that is cut to n, where there are n label rows at most
 same_test : (room n labels : ℕ) → labels ≤ n → ltb (min room n) labels ≡ ltb room labels
@@ -66,7 +68,7 @@ module _ (s list : List ℕ) (room n k words hosts : ℕ) (fits : length s ≤ 6
       (ap (tabled s) (cut_entries_lem room n k e) ∙ room_tabled s room n fits)
 
   -- the answer
-  pub cut_told : (r : Assembly) → numbered r ≡ assembled_totals s list (record { entries = cut_entries n k; words = words; hosts = hosts }) → numbered r ≡ assembled_totals s list (record { entries = room; words = words; hosts = hosts })
+  pub cut_told : (r : Result Totals AssembleRefusal) → numbered r ≡ assembled_totals s list (record { entries = cut_entries n k; words = words; hosts = hosts }) → numbered r ≡ assembled_totals s list (record { entries = room; words = words; hosts = hosts })
   unfolding assembled_totals
   cut_told r h = h ∙ ap (λ (y : Answer Accepted). y >>= λ a. ok (totals_of a)) cut_assembled
 
@@ -77,11 +79,3 @@ module _ (s list : List ℕ) (room n k words hosts : ℕ) (fits : length s ≤ 6
   -- the hosts
   pub cut_hosted : (w v : List ℕ) → v ≡ hosts_left (assembled s list (record { entries = cut_entries n k; words = words; hosts = hosts })) w → v ≡ hosts_left (assembled s list (record { entries = room; words = words; hosts = hosts })) w
   cut_hosted w v h = h ∙ ap (λ (y : Answer Accepted). hosts_left y w) cut_assembled
-
--- 1,366 entries are enough for 4,096 bytes
-pub small_fits : (s : List ℕ) → length s ≤ 4096 → length s ≤ 65536 → length s ≤ 3 * 1366 + 1
-small_fits s h k = omega arith
-
--- and 21,846 for every source that is not too long
-pub large_fits : (s : List ℕ) → length s ≤ 65536 → length s ≤ 3 * 21846 + 1
-large_fits s h = omega arith

@@ -1,4 +1,5 @@
 -- What a line of the sorted source adds to its instruction rows, told by what `canonical_at` found there.
+use Rattle.std.specs.Prelude.{Option, Some, None, Result, Ok, Err}
 use Prim.Native.Nat.{ℕ, ◌+◌, ◌-◌, ◌<◌, ◌≤◌}
 use mathlib.Core.Path.{◌≡◌, refl, sym, ap, subst, ◌∙◌}
 use mathlib.Core.List.{List, [], ◌∷◌}
@@ -14,12 +15,11 @@ use Rattle.relocate.specs.Layout.{sorted_row_at, sorted_from, sorted_instruction
 use Rattle.relocate_laws.proofs.WalkLaws.{sorted_end, sorted_blank, sorted_row, sorted_unreadable, sorted_next_past, sorted_next_within, sorted_room}
 use Rattle.relocate.specs.Columns.{LookUp}
 use Rattle.encoder_canonical.specs.Held.{held_canonical}
-use Rattle.encoder_canonical.specs.declared.Canonical.{Canonical}
-use Rattle.encoder_canonical.specs.declared.Canonical.TheVariants.{Is as Made, Unknown as NameUnknown, Misused, Bracketed}
 use Rattle.encoder_lines.specs.Lines.{of_canonical, canonical_line, canonical_at}
-use Rattle.encoder_lines.specs.declared.CanonicalLine.{CanonicalLine}
-use Rattle.encoder_lines.specs.declared.CanonicalLine.TheVariants.{Skip, Is as MadeLine, Unknown as UnknownLine, Misused as MisusedLine, Bracketed as BracketedLine}
 use Rattle.encoder_lines.specs.declared.CanonicalAt.{CanonicalAt}
+use Rattle.program.specs.declared.BinaryInstruction.{BinaryInstruction}
+use Rattle.encoder_canonical.specs.declared.CanonicalRefusal.{CanonicalRefusal}
+use Rattle.encoder_canonical.specs.declared.CanonicalRefusal.TheVariants.{Unknown, Misused, Bracketed}
 
 -- the instruction rows of the sorted source from place v on
 abbrev pub rows_from : List ℕ → ℕ → ℕ → ℕ → List OlaAsmInstruction
@@ -50,43 +50,43 @@ rows_end s start end v a b h = rw (sorted_end s start end v a b h)
 -- ---- a line of it
 
 -- what a line told, taken back
-taken : CanonicalLine → Canonical
-taken Skip = NameUnknown
-taken (MadeLine b) = Made b
-taken UnknownLine = NameUnknown
-taken MisusedLine = Misused
-taken BracketedLine = Bracketed
+taken : Result (Option BinaryInstruction) CanonicalRefusal → Result BinaryInstruction CanonicalRefusal
+taken (Ok None) = Err Unknown
+taken (Ok (Some b)) = Ok b
+taken (Err Unknown) = Err Unknown
+taken (Err Misused) = Err Misused
+taken (Err Bracketed) = Err Bracketed
 
 -- that gives back what was told
-taken_of : (c : Canonical) → taken (of_canonical c) ≡ c
+taken_of : (c : Result BinaryInstruction CanonicalRefusal) → taken (of_canonical c) ≡ c
 unfolding taken
-taken_of (Made b) = refl
-taken_of NameUnknown = refl
-taken_of Misused = refl
-taken_of Bracketed = refl
+taken_of (Ok b) = refl
+taken_of (Err Unknown) = refl
+taken_of (Err Misused) = refl
+taken_of (Err Bracketed) = refl
 
 -- what two rows were told as is the same only where they are
-told_same : (c d : Canonical) → of_canonical c ≡ of_canonical d → c ≡ d
+told_same : (c d : Result BinaryInstruction CanonicalRefusal) → of_canonical c ≡ of_canonical d → c ≡ d
 told_same c d e = sym (taken_of c) ∙ ap taken e ∙ taken_of d
 
 -- an instruction row is never skipped
-told_not_skip : (c : Canonical) → of_canonical c ≡ Skip → ⊥
-told_not_skip (Made b) e = let z : ◌≡◌ {A = ℕ} 0 1 = cc in omega arith
-told_not_skip NameUnknown e = let z : ◌≡◌ {A = ℕ} 0 1 = cc in omega arith
-told_not_skip Misused e = let z : ◌≡◌ {A = ℕ} 0 1 = cc in omega arith
-told_not_skip Bracketed e = let z : ◌≡◌ {A = ℕ} 0 1 = cc in omega arith
+told_not_skip : (c : Result BinaryInstruction CanonicalRefusal) → of_canonical c ≡ Ok None → ⊥
+told_not_skip (Ok b) e = let z : ◌≡◌ {A = ℕ} 0 1 = cc in omega arith
+told_not_skip (Err Unknown) e = let z : ◌≡◌ {A = ℕ} 0 1 = cc in omega arith
+told_not_skip (Err Misused) e = let z : ◌≡◌ {A = ℕ} 0 1 = cc in omega arith
+told_not_skip (Err Bracketed) e = let z : ◌≡◌ {A = ℕ} 0 1 = cc in omega arith
 
 -- an instruction row that became c, and the rows behind it
-pub record HeldRow (s : List ℕ) (look : LookUp) (start end v next : ℕ) (c : Canonical) : Type 0 where
+pub record HeldRow (s : List ℕ) (look : LookUp) (start end v next : ℕ) (c : Result BinaryInstruction CanonicalRefusal) : Type 0 where
   pub row : OlaAsmInstruction
   pub held : held_canonical s look row ≡ c
   pub rest : rows_from s start end v ≡ row ∷ rows_from s start end next
   pub room : v + 3 ≤ next
 
 -- what was found at a line: nothing, and it adds nothing, or what its instruction row became
-data Found (s : List ℕ) (look : LookUp) (start end v next : ℕ) (found : CanonicalLine) : Type 0 where
-  no_row : found ≡ Skip → rows_from s start end v ≡ rows_from s start end next → Found s look start end v next found
-  one_row : (c : Canonical) → found ≡ of_canonical c → HeldRow s look start end v next c → Found s look start end v next found
+data Found (s : List ℕ) (look : LookUp) (start end v next : ℕ) (found : Result (Option BinaryInstruction) CanonicalRefusal) : Type 0 where
+  no_row : found ≡ Ok None → rows_from s start end v ≡ rows_from s start end next → Found s look start end v next found
+  one_row : (c : Result BinaryInstruction CanonicalRefusal) → found ≡ of_canonical c → HeldRow s look start end v next c → Found s look start end v next found
 
 module _ (s : List ℕ) (look : LookUp) (start end v : ℕ) (r : CanonicalAt) (a : start ≤ end) (b : end ≤ length s) (e : r ≡ canonical_at s look start end v) (h : v < length s) where
   -- the next line is that of the sorted source
@@ -120,7 +120,7 @@ module _ (s : List ℕ) (look : LookUp) (start end v : ℕ) (r : CanonicalAt) (a
       go Unreadable k = no_row refl (ap instructions (sorted_unreadable s start end v (sorted_row_at s start end v) a b refl h k))
 
   -- a line that is skipped adds no instruction row
-  pub line_skip : r.found ≡ Skip → rows_from s start end v ≡ rows_from s start end r.next
+  pub line_skip : r.found ≡ Ok None → rows_from s start end v ≡ rows_from s start end r.next
   line_skip k = go line_found
     where
       go : Found s look start end v r.next r.found → rows_from s start end v ≡ rows_from s start end r.next
@@ -128,7 +128,7 @@ module _ (s : List ℕ) (look : LookUp) (start end v : ℕ) (r : CanonicalAt) (a
       go (one_row c f g) = absurd (told_not_skip c (sym f ∙ k))
 
   -- any other is an instruction row that became what was found
-  pub line_row : (c : Canonical) → r.found ≡ of_canonical c → HeldRow s look start end v r.next c
+  pub line_row : (c : Result BinaryInstruction CanonicalRefusal) → r.found ≡ of_canonical c → HeldRow s look start end v r.next c
   line_row c k = go line_found
     where
       go : Found s look start end v r.next r.found → HeldRow s look start end v r.next c

@@ -1,4 +1,5 @@
 -- A program whose names are all known: its first row, and the rest.
+use Rattle.std.specs.Prelude.{Ok}
 use Prim.Native.Nat.{ℕ, suc}
 use mathlib.Core.Path.{◌≡◌}
 use mathlib.Core.List.{List, ◌∷◌}
@@ -8,14 +9,13 @@ use Rattle.asm.specs.declared.OlaAsmInstruction.{OlaAsmInstruction}
 use Rattle.program.specs.declared.BinaryInstruction.{BinaryInstruction}
 use Rattle.relocate.specs.Columns.{LookUp}
 use Rattle.encoder_canonical.specs.Held.{held_canonical, canonical_numbered, held_program}
-use Rattle.encoder_canonical.specs.declared.Canonical.TheVariants.{Is as Made}
 use Rattle.encoder_canonical.proofs.HeldLaws.{numbered_made}
 
 -- an accepted program: its first row, and the rest
 pub record Accepted (s : List ℕ) (look : LookUp) (k : ℕ) (i : OlaAsmInstruction) (is : List OlaAsmInstruction) (bs : List BinaryInstruction) : Type 0 where
   pub first : BinaryInstruction
   pub later : List BinaryInstruction
-  pub held : held_canonical s look i ≡ Made first
+  pub held : held_canonical s look i ≡ Ok first
   pub rest : held_program s look (suc k) is ≡ ok later
   pub whole : first ∷ later ≡ bs
 

@@ -1,16 +1,11 @@
--- The meter after builds one after another holds the total of their history; and the meter after an answer, by its counts.
-use Prim.Native.Nat.{ℕ, ◌+◌, ◌-◌, ◌≤◌, ◌<◌}
+-- The meter after builds one after another holds the total of their history.
+use Prim.Native.Nat.{ℕ, ◌+◌, ◌≤◌}
 use mathlib.Core.Path.{◌≡◌, refl, ap, ◌∙◌}
 use mathlib.Core.List.{List, [], ◌∷◌, map}
 use native.Mathlib.Omega.{arith}
-use borrow.Author.Rules.{rules}
 use Rattle.text.specs.Lists.{total}
 use Rattle.text.specs.Answer.{Answer, ok, refused, ◌>>=◌}
-use Rattle.encoder.specs.Assemble.{Accepted, totals_of, numbered}
-use Rattle.encoder.specs.declared.AssembleRefusal.{AssembleRefusal}
-use Rattle.encoder.specs.declared.Totals.{Totals}
-use Rattle.encoder.specs.declared.Assembly.{Assembly}
-use Rattle.encoder.specs.declared.Assembly.TheVariants.{Refused, Assembled}
+use Rattle.encoder.specs.Assemble.{Accepted, totals_of}
 use Rattle.meter.specs.declared.Meter.{Meter}
 use Rattle.meter.specs.Meter.{Build, built_of, added, stopped, total_of, at_start, meter_after, meter_told, played}
 
@@ -47,18 +42,3 @@ pub told_after : (m : Meter) (x : Answer Accepted) → meter_told m (x >>= λ a.
 unfolding ◌>>=◌
 told_after m (ok a) = refl
 told_after m (refused n d) = refl
-
--- ---- the meter after an answer
-
-module _ (m : Meter) (x : Assembly) where
-  pub after_refused : (f : AssembleRefusal) → x ≡ Refused f → record { total = m.total } ≡ meter_told m (numbered x)
-  after_refused f e = rw e
-
-  module _ (t : Totals) (e : x ≡ Assembled t) where
-    pub after_stops : 18446744073709551615 - m.total < t.words → record { total = 18446744073709551615 } ≡ meter_told m (numbered x)
-    after_stops h = rw e (ap (λ (n : ℕ). record { total = n }) (omega arith))
-
-    pub after_sum : t.words ≤ 18446744073709551615 - m.total → m.total ≤ 18446744073709551615 → record { total = m.total + t.words } ≡ meter_told m (numbered x)
-    after_sum h k = rw e (ap (λ (n : ℕ). record { total = n }) (omega arith))
-
-pub ruleset after_laws = (after_refused, after_stops, after_sum, rules)

@@ -5,7 +5,7 @@ ghost use Rattle.std.specs.Prelude.{◌≡◌};
 ghost use Rattle.encoder.specs.Assemble.{numbered};
 ghost use Rattle.meter.specs.Meter.{at_start, meter_told};
 
-use encoder::Assembly;
+use encoder::{AssembleRefusal, Totals};
 
 // The words of all accepted builds since it was opened, 2^64 - 1 where there were more.
 #[repr(C)]
@@ -17,13 +17,13 @@ pub struct Meter {
 // What a build on a meter answers: what assembling answers, and the meter after it.
 #[derive(Clone, Copy)]
 pub struct Metered {
-    pub assembly: Assembly,
+    pub assembly: Result<Totals, AssembleRefusal>,
     pub meter: Meter,
 }
 
 impl Meter {
     // Where the total stops.
-    pub const MOST: u64 = 18446744073709551615;
+    pub const MOST: u64 = u64::MAX;
 
     // A meter at its start.
     // Promises: meter_counts.
@@ -35,21 +35,14 @@ impl Meter {
 
     // The meter after a build that answered so.
     // Promises: meter_counts, meter_from, meter_kept.
-    pub fn after(self, assembly: Assembly) -> Self
+    pub fn after(self, assembly: Result<Totals, AssembleRefusal>) -> Self
         ensures { result ≡ meter_told self (numbered assembly) }
     {
-        let total = self.total;
         match assembly {
-            Assembly::Refused(refusal) => Self { total },
-            Assembly::Assembled(totals) => {
-                let words = totals.words as u64;
-                if Self::MOST - total < words {
-                    return Self { total: Self::MOST };
-                }
-                Self {
-                    total: total + words,
-                }
-            }
+            Err(_) => self,
+            Ok(totals) => Self {
+                total: self.total.saturating_add(totals.words as u64),
+            },
         }
     }
 }

@@ -1,12 +1,10 @@
 -- The library's answers as numbers, all but those of opening and next: refusal 0 means accepted, and "On refusal, fields other than refusal and detail
 -- are 0", but that a meter is the one that was given.
-use Rattle.std.specs.Prelude.{ℕ}
+use Rattle.std.specs.Prelude.{ℕ, Option, Some, None}
 use Rattle.text.specs.Answer.{Answer, ok, refused}
 use Rattle.asm.specs.Parts.{Span}
 use Rattle.relocate.specs.declared.RoomFigures.{RoomFigures}
 use Rattle.program.specs.declared.InstructionWords.{InstructionWords}
-use Rattle.program.specs.declared.SecondWord.{SecondWord}
-use Rattle.program.specs.declared.SecondWord.TheVariants.{Number, Nothing}
 use Rattle.encoder.specs.declared.Totals.{Totals}
 use Rattle.meter.specs.declared.Meter.{Meter}
 use Rattle.ola_answers.specs.declared.OlaAssembly.{OlaAssembly}
@@ -33,9 +31,9 @@ abbrev pub written_of : Answer ℕ → OlaWritten
 written_of (ok n) = record { refusal = 0; detail = 0; written = n }
 written_of (refused n d) = record { refusal = n; detail = d; written = 0 }
 
-abbrev pub second_out : ℕ → SecondWord → OlaEncoding
-second_out w (Number v) = record { refusal = 0; detail = 0; count = 2; first = w; second = v }
-second_out w Nothing = record { refusal = 0; detail = 0; count = 1; first = w; second = 0 }
+abbrev pub second_out : ℕ → Option ℕ → OlaEncoding
+second_out w (Some v) = record { refusal = 0; detail = 0; count = 2; first = w; second = v }
+second_out w None = record { refusal = 0; detail = 0; count = 1; first = w; second = 0 }
 
 abbrev pub encoding_of : Answer InstructionWords → OlaEncoding
 encoding_of (ok w) = second_out w.first w.second

@@ -7,24 +7,20 @@ ghost use Rattle.text.specs.Answer.{ok, refused};
 ghost use Rattle.asm.specs.Parts.{name_part};
 ghost use Rattle.relocate.specs.Room.{room_numbered};
 ghost use Rattle.encoder.specs.Assemble.{numbered};
-ghost use Rattle.program.specs.Refusals.{row_number, encode_number, encode_detail};
 ghost use Rattle.program_bytecode.specs.Written.{written_numbered};
 ghost use Rattle.program_encode.specs.Encoding.{encoding_numbered};
 ghost use Rattle.program_listing.specs.Row.{row_numbered};
-ghost use Rattle.source.specs.SourceText.{source_refusal_number, source_refusal_detail, source_numbered};
+ghost use Rattle.source.specs.SourceText.{source_numbered};
 ghost use Rattle.ola_answers.specs.Answers.{assembly_of, metered_of, figures_out, written_of, encoding_of, name_of};
 
-use encoder::{AssembleRefusal, Assembly};
+use encoder::{AssembleRefusal, Totals};
 use meter::{Meter, Metered};
-use program::{EncodeRefusal, RowRefusal, SecondWord};
-use program_bytecode::Written;
-use program_encode::Encoding;
-use program_listing::RowWritten;
-use relocate::RoomFound;
-use source::{SourceRefusal, SourceWritten};
+use program::{EncodeRefusal, InstructionWords, RowRefusal, WriteRefusal};
+use relocate::{RelocateRefusal, RoomFigures};
+use source::SourceRefusal;
 
 #[repr(C)]
-#[derive(Clone, Copy)]
+#[derive(Clone, Copy, Default)]
 pub struct OlaAssembly {
     pub refusal: u64,
     pub detail: u64,
@@ -42,7 +38,7 @@ pub struct OlaMetered {
 }
 
 #[repr(C)]
-#[derive(Clone, Copy)]
+#[derive(Clone, Copy, Default)]
 pub struct OlaRoom {
     pub refusal: u64,
     pub detail: u64,
@@ -61,7 +57,7 @@ pub struct OlaWritten {
 }
 
 #[repr(C)]
-#[derive(Clone, Copy)]
+#[derive(Clone, Copy, Default)]
 pub struct OlaEncoding {
     pub refusal: u64,
     pub detail: u64,
@@ -71,32 +67,28 @@ pub struct OlaEncoding {
 }
 
 #[repr(C)]
-#[derive(Clone, Copy)]
+#[derive(Clone, Copy, Default)]
 pub struct OlaName {
     pub start: usize,
     pub length: usize,
 }
 
 // What assembling answered.
-pub fn assembly_out(answer: Assembly) -> OlaAssembly
+pub fn assembly_out(answer: Result<Totals, AssembleRefusal>) -> OlaAssembly
     ensures { result ≡ assembly_of (numbered answer) }
 {
     match answer {
-        Assembly::Refused(refusal) => OlaAssembly {
-            refusal: encoder_refusals::refusal_number(refusal),
-            detail: encoder_refusals::refusal_detail(refusal),
-            labels: 0,
-            words: 0,
-            hosts: 0,
-            kept: 0,
-        },
-        Assembly::Assembled(totals) => OlaAssembly {
-            refusal: 0,
-            detail: 0,
+        Ok(totals) => OlaAssembly {
             labels: totals.labels as u64,
             words: totals.words as u64,
             hosts: totals.hosts as u64,
             kept: totals.kept as u64,
+            ..OlaAssembly::default()
+        },
+        Err(refusal) => OlaAssembly {
+            refusal: encoder_refusals::refusal_number(refusal),
+            detail: encoder_refusals::refusal_detail(refusal),
+            ..OlaAssembly::default()
         },
     }
 }
@@ -105,38 +97,32 @@ pub fn assembly_out(answer: Assembly) -> OlaAssembly
 pub fn metered_out(answer: Metered) -> OlaMetered
     ensures { result ≡ metered_of (numbered answer.assembly) answer.meter }
 {
-    let assembly = answer.assembly;
-    let meter = answer.meter;
     OlaMetered {
-        assembly: assembly_out(assembly),
-        meter,
+        assembly: assembly_out(answer.assembly),
+        meter: answer.meter,
     }
 }
 
 // What a source takes.
-pub fn room_out(answer: RoomFound) -> OlaRoom
+pub fn room_out(answer: Result<RoomFigures, RelocateRefusal>) -> OlaRoom
     ensures { result ≡ figures_out (room_numbered answer) }
 {
     match answer {
-        RoomFound::Refused(inner) => {
-            let refusal = AssembleRefusal::Relocate(inner);
-            OlaRoom {
-                refusal: encoder_refusals::refusal_number(refusal),
-                detail: encoder_refusals::refusal_detail(refusal),
-                labels: 0,
-                instructions: 0,
-                counted: 0,
-                words: 0,
-            }
-        }
-        RoomFound::Is(figures) => OlaRoom {
-            refusal: 0,
-            detail: 0,
+        Ok(figures) => OlaRoom {
             labels: figures.labels as u64,
             instructions: figures.instructions as u64,
             counted: figures.counted as u64,
             words: figures.words as u64,
+            ..OlaRoom::default()
         },
+        Err(inner) => {
+            let refusal = AssembleRefusal::Relocate(inner);
+            OlaRoom {
+                refusal: encoder_refusals::refusal_number(refusal),
+                detail: encoder_refusals::refusal_detail(refusal),
+                ..OlaRoom::default()
+            }
+        }
     }
 }
 
@@ -151,135 +137,73 @@ fn accepted_text(n: usize) -> OlaWritten
     }
 }
 
-// None were, by a refusal that has no detail.
-fn refused_text(number: u64) -> OlaWritten
-    ensures { result ≡ written_of (refused number 0) }
+// None were.
+fn refused_text(refusal: u64, detail: u64) -> OlaWritten
+    ensures { result ≡ written_of (refused refusal detail) }
 {
     OlaWritten {
-        refusal: number,
-        detail: 0,
+        refusal,
+        detail,
         written: 0,
     }
 }
 
 // What writing bytecode answered.
-pub fn written_out(answer: Written) -> OlaWritten
+pub fn written_out(answer: Result<usize, WriteRefusal>) -> OlaWritten
     ensures { result ≡ written_of (written_numbered answer) }
 {
     match answer {
-        Written::Is(n) => accepted_text(n),
-        Written::Refused(refusal) => refused_text(23),
-    }
-}
-
-// The number of a row's refusal.
-fn row_number(refusal: RowRefusal) -> u64
-    ensures { result ≡ row_number refusal }
-{
-    match refusal {
-        RowRefusal::NumberTooLarge => 21,
-        RowRefusal::PlaceEmpty => 24,
-        RowRefusal::TextTooShort => 23,
+        Ok(n) => accepted_text(n),
+        Err(WriteRefusal::TextTooShort) => refused_text(23, 0),
     }
 }
 
 // What writing a listing row answered.
-pub fn row_out(answer: RowWritten) -> OlaWritten
+pub fn row_out(answer: Result<usize, RowRefusal>) -> OlaWritten
     ensures { result ≡ written_of (row_numbered answer) }
 {
     match answer {
-        RowWritten::Is(n) => accepted_text(n),
-        RowWritten::Refused(refusal) => refused_text(row_number(refusal)),
-    }
-}
-
-// The number of a refusal to write source.
-fn source_number(refusal: SourceRefusal) -> u64
-    ensures { result ≡ source_refusal_number refusal }
-{
-    match refusal {
-        SourceRefusal::Open(inner) => ola_steps::open_number(inner),
-        SourceRefusal::OffRow(index) => 26,
-        SourceRefusal::TextTooShort => 23,
-    }
-}
-
-// And its detail.
-fn source_detail(refusal: SourceRefusal) -> u64
-    ensures { result ≡ source_refusal_detail refusal }
-{
-    match refusal {
-        SourceRefusal::Open(inner) => ola_steps::open_detail(inner),
-        SourceRefusal::OffRow(index) => index as u64,
-        SourceRefusal::TextTooShort => 0,
+        Ok(n) => accepted_text(n),
+        Err(RowRefusal::NumberTooLarge) => refused_text(21, 0),
+        Err(RowRefusal::PlaceEmpty) => refused_text(24, 0),
+        Err(RowRefusal::TextTooShort) => refused_text(23, 0),
     }
 }
 
 // What writing source answered.
-pub fn source_out(answer: SourceWritten) -> OlaWritten
+pub fn source_out(answer: Result<usize, SourceRefusal>) -> OlaWritten
     ensures { result ≡ written_of (source_numbered answer) }
 {
     match answer {
-        SourceWritten::Is(n) => accepted_text(n),
-        SourceWritten::Refused(refusal) => OlaWritten {
-            refusal: source_number(refusal),
-            detail: source_detail(refusal),
-            written: 0,
-        },
-    }
-}
-
-// The number of a refusal of one instruction.
-fn encode_number(refusal: EncodeRefusal) -> u64
-    ensures { result ≡ encode_number refusal }
-{
-    match refusal {
-        EncodeRefusal::NumberTooLarge => 21,
-        EncodeRefusal::Rejected(place) => 22,
-    }
-}
-
-// And its detail.
-fn encode_detail(refusal: EncodeRefusal) -> u64
-    ensures { result ≡ encode_detail refusal }
-{
-    match refusal {
-        EncodeRefusal::NumberTooLarge => 0,
-        EncodeRefusal::Rejected(place) => place.index() as u64,
+        Ok(n) => accepted_text(n),
+        Err(SourceRefusal::Open(inner)) => refused_text(
+            ola_steps::open_number(inner),
+            ola_steps::open_detail(inner),
+        ),
+        Err(SourceRefusal::OffRow(index)) => refused_text(26, index as u64),
+        Err(SourceRefusal::TextTooShort) => refused_text(23, 0),
     }
 }
 
 // What encoding one instruction answered.
-pub fn encoding_out(answer: Encoding) -> OlaEncoding
+pub fn encoding_out(answer: Result<InstructionWords, EncodeRefusal>) -> OlaEncoding
     ensures { result ≡ encoding_of (encoding_numbered answer) }
 {
     match answer {
-        Encoding::Is(words) => {
-            let first = words.first;
-            let second = words.second;
-            match second {
-                SecondWord::Number(number) => OlaEncoding {
-                    refusal: 0,
-                    detail: 0,
-                    count: 2,
-                    first,
-                    second: number,
-                },
-                SecondWord::Nothing => OlaEncoding {
-                    refusal: 0,
-                    detail: 0,
-                    count: 1,
-                    first,
-                    second: 0,
-                },
-            }
-        }
-        Encoding::Refused(refusal) => OlaEncoding {
-            refusal: encode_number(refusal),
-            detail: encode_detail(refusal),
-            count: 0,
-            first: 0,
-            second: 0,
+        Ok(words) => OlaEncoding {
+            count: if words.second.is_some() { 2 } else { 1 },
+            first: words.first,
+            second: words.second.unwrap_or(0),
+            ..OlaEncoding::default()
+        },
+        Err(EncodeRefusal::NumberTooLarge) => OlaEncoding {
+            refusal: 21,
+            ..OlaEncoding::default()
+        },
+        Err(EncodeRefusal::Rejected(place)) => OlaEncoding {
+            refusal: 22,
+            detail: place.index() as u64,
+            ..OlaEncoding::default()
         },
     }
 }
@@ -288,17 +212,8 @@ pub fn encoding_out(answer: Encoding) -> OlaEncoding
 pub fn name_out(source: &[u8], start: usize, length: usize) -> OlaName
     ensures { result ≡ name_of (name_part source.now start length) }
 {
-    if source.len() < start {
-        return OlaName {
-            start: 0,
-            length: 0,
-        };
+    match source.get(start..) {
+        Some(rest) if length <= rest.len() => OlaName { start, length },
+        _ => OlaName::default(),
     }
-    if source.len() - start < length {
-        return OlaName {
-            start: 0,
-            length: 0,
-        };
-    }
-    OlaName { start, length }
 }

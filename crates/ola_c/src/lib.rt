@@ -22,7 +22,7 @@ ghost use Rattle.ola_c.specs.Exports.{version, line_step, offset_step, encoding_
 
 use meter::Meter;
 use ola_answers::{OlaAssembly, OlaEncoding, OlaMetered, OlaName, OlaRoom, OlaWritten};
-use ola_places::{InstructionNamed, OlaInstruction};
+use ola_places::OlaInstruction;
 use ola_steps::{OlaOpened, OlaStep};
 use relocate::LabelEntry;
 
@@ -189,14 +189,14 @@ pub fn ola_encode(instruction: OlaInstruction) -> OlaEncoding
     ensures { result ≡ encoding_named (instruction_in instruction) }
 {
     match ola_places::instruction_in(instruction) {
-        InstructionNamed::Nothing => OlaEncoding {
+        None => OlaEncoding {
             refusal: 255,
             detail: 0,
             count: 0,
             first: 0,
             second: 0,
         },
-        InstructionNamed::Is(named) => ola_answers::encoding_out(program_encode::encode(named)),
+        Some(named) => ola_answers::encoding_out(program_encode::encode(named)),
     }
 }
 
@@ -207,12 +207,12 @@ pub fn ola_listing_row(instruction: OlaInstruction, text: &mut [u8]) -> OlaWritt
     ensures text_after { text.new ≡ listed_text (instruction_in instruction) text.old }
 {
     match ola_places::instruction_in(instruction) {
-        InstructionNamed::Nothing => OlaWritten {
+        None => OlaWritten {
             refusal: 255,
             detail: 0,
             written: 0,
         },
-        InstructionNamed::Is(named) => {
+        Some(named) => {
             let answer = program_listing::get_asm_form_code(named, text);
             ola_answers::row_out(answer)
         }

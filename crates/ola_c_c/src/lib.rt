@@ -22,7 +22,7 @@ ghost use Rattle.ola_c.specs.Exports.{version, line_step, offset_step, encoding_
 
 use meter::Meter;
 use ola_answers::{OlaAssembly, OlaEncoding, OlaMetered, OlaName, OlaRoom, OlaWritten};
-use ola_places::{InstructionNamed, OlaInstruction};
+use ola_places::OlaInstruction;
 use ola_steps::{OlaOpened, OlaStep};
 use relocate::LabelEntry;
 

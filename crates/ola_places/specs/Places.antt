@@ -1,17 +1,11 @@
 -- Instructions as numbers: what a C caller gives and gets. These conventions stand in no paper of the customer's; they are the C header's.
-use Rattle.std.specs.Prelude.{ℕ, cond, eqb, ltb, get_or}
+use Rattle.std.specs.Prelude.{ℕ, cond, eqb, ltb, get_or, Option, Some, None}
 use Rattle.vm_opcodes.specs.Operations.{operations, index_of}
 use Rattle.vm_opcodes.specs.declared.OlaOpcode.TheVariants.{ADD}
-use Rattle.vm_opcodes.specs.declared.OpcodeFound.{OpcodeFound}
-use Rattle.vm_opcodes.specs.declared.OpcodeFound.TheVariants.{Is as IsOpcode, Nothing as NoOpcode}
 use Rattle.vm_hardware.specs.Registers.{register_at, register_index}
 use Rattle.vm_hardware.specs.declared.OlaRegister.{OlaRegister}
 use Rattle.vm_hardware.specs.declared.OlaSpecialRegister.{OlaSpecialRegister}
 use Rattle.vm_hardware.specs.declared.OlaSpecialRegister.TheVariants.{PC, PSP}
-use Rattle.vm_hardware.specs.declared.RegisterFound.{RegisterFound}
-use Rattle.vm_hardware.specs.declared.RegisterFound.TheVariants.{Is as IsRegister, Nothing as NoRegister}
-use Rattle.vm_hardware.specs.declared.SpecialFound.{SpecialFound}
-use Rattle.vm_hardware.specs.declared.SpecialFound.TheVariants.{Is as IsSpecial, Nothing as NoSpecial}
 use Rattle.vm_operands.specs.Numbers.{immediate}
 use Rattle.vm_operands.specs.declared.ImmediateValue.{ImmediateValue}
 use Rattle.vm_operands.specs.declared.OlaOperand.{OlaOperand}
@@ -20,54 +14,51 @@ use Rattle.program.specs.Instructions.{made}
 use Rattle.program.specs.declared.BinaryInstruction.{BinaryInstruction}
 use Rattle.ola_places.specs.declared.OlaPlace.{OlaPlace}
 use Rattle.ola_places.specs.declared.OlaInstruction.{OlaInstruction}
-use Rattle.ola_places.specs.declared.PlaceNamed.{PlaceNamed}
-use Rattle.ola_places.specs.declared.PlaceNamed.TheVariants.{Is as IsPlace, Nothing as NoPlace}
-use Rattle.ola_places.specs.declared.InstructionNamed.{InstructionNamed}
-use Rattle.ola_places.specs.declared.InstructionNamed.TheVariants.{Is, Nothing}
+use Rattle.vm_opcodes.specs.declared.OlaOpcode.{OlaOpcode}
 
 -- ---- taken
 
 -- "opcode: OlaOpcode's order, from 0"
-abbrev pub operation_named : ℕ → OpcodeFound
-operation_named k = cond (ltb k 27) (IsOpcode (get_or operations k ADD)) NoOpcode
+abbrev pub operation_named : ℕ → Option OlaOpcode
+operation_named k = cond (ltb k 27) (Some (get_or operations k ADD)) None
 
-abbrev pub register_named : ℕ → RegisterFound
-register_named k = cond (ltb k 10) (IsRegister (register_at k)) NoRegister
+abbrev pub register_named : ℕ → Option OlaRegister
+register_named k = cond (ltb k 10) (Some (register_at k)) None
 
 -- "special (reg 0 pc, 1 psp)"
-abbrev pub special_named : ℕ → SpecialFound
-special_named k = cond (eqb k 0) (IsSpecial PC) (cond (eqb k 1) (IsSpecial PSP) NoSpecial)
+abbrev pub special_named : ℕ → Option OlaSpecialRegister
+special_named k = cond (eqb k 0) (Some PC) (cond (eqb k 1) (Some PSP) None)
 
 -- "2 register, 3 offset, 4 factor"
 abbrev pub with_register : ℕ → OlaRegister → ImmediateValue → OlaOperand
 with_register content r v = cond (eqb content 2) (RegisterOperand r) (cond (eqb content 3) (RegisterWithOffset r v) (RegisterWithFactor r v))
 
-abbrev pub on_register : ℕ → ImmediateValue → RegisterFound → PlaceNamed
-on_register content v (IsRegister r) = IsPlace (with_register content r v)
-on_register content v NoRegister = NoPlace
+abbrev pub on_register : ℕ → ImmediateValue → Option OlaRegister → Option OlaOperand
+on_register content v (Some r) = Some (with_register content r v)
+on_register content v None = None
 
-abbrev pub on_special : SpecialFound → PlaceNamed
-on_special (IsSpecial s) = IsPlace (SpecialReg s)
-on_special NoSpecial = NoPlace
+abbrev pub on_special : Option OlaSpecialRegister → Option OlaOperand
+on_special (Some s) = Some (SpecialReg s)
+on_special None = None
 
 -- "content: 0 empty, 1 number, 2 register, 3 offset, 4 factor, 5 special"
-unfoldable pub place_in : OlaPlace → PlaceNamed
+unfoldable pub place_in : OlaPlace → Option OlaOperand
 place_in p =
-    cond (eqb p.content 0) (IsPlace Empty)
-    (cond (eqb p.content 1) (IsPlace (ImmediateOperand (immediate p.number)))
+    cond (eqb p.content 0) (Some Empty)
+    (cond (eqb p.content 1) (Some (ImmediateOperand (immediate p.number)))
     (cond (eqb p.content 5) (on_special (special_named p.reg))
-    (cond (ltb 4 p.content) NoPlace
+    (cond (ltb 4 p.content) None
     (on_register p.content (immediate p.number) (register_named p.reg)))))
 
-abbrev pub named : OpcodeFound → PlaceNamed → PlaceNamed → PlaceNamed → InstructionNamed
-named NoOpcode op0 op1 dst = Nothing
-named (IsOpcode o) NoPlace op1 dst = Nothing
-named (IsOpcode o) (IsPlace a) NoPlace dst = Nothing
-named (IsOpcode o) (IsPlace a) (IsPlace b) NoPlace = Nothing
-named (IsOpcode o) (IsPlace a) (IsPlace b) (IsPlace d) = Is (made o a b d)
+abbrev pub named : Option OlaOpcode → Option OlaOperand → Option OlaOperand → Option OlaOperand → Option BinaryInstruction
+named None op0 op1 dst = None
+named (Some o) None op1 dst = None
+named (Some o) (Some a) None dst = None
+named (Some o) (Some a) (Some b) None = None
+named (Some o) (Some a) (Some b) (Some d) = Some (made o a b d)
 
 -- the instruction that the numbers name
-unfoldable pub instruction_in : OlaInstruction → InstructionNamed
+unfoldable pub instruction_in : OlaInstruction → Option BinaryInstruction
 instruction_in i = named (operation_named i.opcode) (place_in i.op0) (place_in i.op1) (place_in i.dst)
 
 -- ---- given

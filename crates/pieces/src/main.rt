@@ -1,11 +1,11 @@
 // Prints each piece of the rows on standard input with what it reads as: an operation, a register, a number, or another piece. Numbers are decimal ones, by vm_operands: a source's hexadecimal ones are read by asm_shapes, which it does not reach.
 #![tactic(auto)]
 
+ghost use Rattle.std.specs.Prelude.{◌+◌, ◌<◌, ◌≤◌, length};
+
 use std::io;
-use text_write::Put;
-use vm_hardware::RegisterFound;
-use vm_opcodes::OpcodeFound;
-use vm_operands::{ImmediateFound, ImmediateValue};
+use text::{Line, Piece};
+use vm_operands::ImmediateValue;
 
 // One line: a kind and a text.
 fn print_line(rt: &impl Print, kind: &[u8], text: &[u8]) -> io::Result<()> {
@@ -15,99 +15,70 @@ fn print_line(rt: &impl Print, kind: &[u8], text: &[u8]) -> io::Result<()> {
 }
 
 // One line with what was put at the start of a text.
-fn print_put(rt: &impl Print, kind: &[u8], text: &[u8], put: Put) -> io::Result<()> {
-    match put {
-        Put::Count(n) => {
-            if n <= text.len() {
-                print_line(rt, kind, &text[..n])?;
-            }
-            Ok(())
-        }
-        Put::Short => Ok(()),
-    }
-}
-
-// Whether the piece is an operation; prints it if so.
-fn is_operation(rt: &impl Print, piece: &[u8]) -> io::Result<bool> {
-    let found = vm_mnemonics::from_str(piece);
-    match found {
-        OpcodeFound::Is(opcode) => {
-            let mut text = [0u8; 32];
-            let put = vm_tokens::put_token(opcode, &mut text, 0);
-            print_put(rt, b"operation ", &text, put)?;
-            Ok(true)
-        }
-        OpcodeFound::Nothing => Ok(false),
-    }
-}
-
-// Whether the piece is a register; prints it if so.
-fn is_register(rt: &impl Print, piece: &[u8]) -> io::Result<bool> {
-    let found = vm_registers::register_from_str(piece);
-    match found {
-        RegisterFound::Is(register) => {
-            let mut text = [0u8; 32];
-            let put = vm_registers::put_register(register, &mut text, 0);
-            print_put(rt, b"register ", &text, put)?;
-            Ok(true)
-        }
-        RegisterFound::Nothing => Ok(false),
-    }
-}
-
-// Whether the piece is a number; prints it if so.
-fn is_number(rt: &impl Print, piece: &[u8]) -> io::Result<bool> {
-    let found = ImmediateValue::from_str(piece);
-    match found {
-        ImmediateFound::Is(value) => {
-            let mut text = [0u8; 32];
-            let put = value.put(&mut text, 0);
-            print_put(rt, b"number ", &text, put)?;
-            Ok(true)
-        }
-        ImmediateFound::Nothing => Ok(false),
+fn print_put(rt: &impl Print, kind: &[u8], text: &[u8], put: Option<usize>) -> io::Result<()> {
+    match put.and_then(|n| text.get(..n)) {
+        Some(written) => print_line(rt, kind, written),
+        None => Ok(()),
     }
 }
 
 // Prints what the piece reads as.
 fn print_piece(rt: &impl Print, piece: &[u8]) -> io::Result<()> {
-    if is_operation(rt, piece)? {
-        return Ok(());
+    let mut text = [0u8; 32];
+    if let Some(opcode) = vm_mnemonics::from_str(piece) {
+        let put = vm_tokens::put_token(opcode, &mut text, 0);
+        return print_put(rt, b"operation ", &text, put);
     }
-    if is_register(rt, piece)? {
-        return Ok(());
+    if let Some(register) = vm_registers::register_from_str(piece) {
+        let put = vm_registers::put_register(register, &mut text, 0);
+        return print_put(rt, b"register ", &text, put);
     }
-    if is_number(rt, piece)? {
-        return Ok(());
+    if let Some(value) = ImmediateValue::from_str(piece) {
+        let put = value.put(&mut text, 0);
+        return print_put(rt, b"number ", &text, put);
     }
     print_line(rt, b"other ", piece)
 }
 
+// The first piece of a row, empty where it has none, and what stands behind it.
+#[tactic(auto, using(crate::proofs::Laws::piece_laws))]
+fn split_piece(row: &[u8]) -> (&[u8], &[u8])
+    ensures { length result.0.now + length result.1.now ≤ length row.now }
+{
+    let Piece { start, length } = text_lines::first_piece(row);
+    row[start..].split_at(length)
+}
+
+// The first line of a text, and what stands behind its ending.
+#[tactic(auto, using(crate::proofs::Laws::line_laws))]
+fn split_line(text: &[u8]) -> (&[u8], &[u8])
+    ensures { 0 < length text.now → length result.1.now < length text.now }
+{
+    let Line { length, next } = text_lines::first_line(text);
+    (&text[..length], &text[next..])
+}
+
 // Prints the pieces of one row.
 fn print_row(rt: &impl Print, row: &[u8]) -> io::Result<()> {
-    let mut at: usize = 0;
-    while at < row.len() {
-        let piece = text_lines::first_piece(&row[at..]);
-        if piece.length == 0 {
+    let mut rest = row;
+    while !rest.is_empty() {
+        let (piece, after) = split_piece(rest);
+        if piece.is_empty() {
             return Ok(());
         }
-        let start = at + piece.start;
-        let end = start + piece.length;
-        print_piece(rt, &row[start..end])?;
-        at = end;
+        print_piece(rt, piece)?;
+        rest = after;
     }
     Ok(())
 }
 
 // Prints the pieces of each row.
 fn print_rows(rt: &impl Print, source: &[u8]) -> io::Result<()> {
-    let mut at: usize = 0;
-    while at < source.len() {
-        let rest = &source[at..];
-        let line = text_lines::first_line(rest);
-        let length = line.length;
-        print_row(rt, &rest[..length])?;
-        at += line.next;
+    let mut rest = source;
+    while !rest.is_empty() {
+        let (line, after) = split_line(rest);
+        print_row(rt, line)?;
+        rest = after;
     }
     Ok(())
 }

@@ -1,7 +1,6 @@
 // The printing program: reads a source on standard input, and prints the position and the text of each of its words, or why it is refused.
 #![tactic(auto)]
 
-use encoder_report::Printed;
 use std::io;
 
 fn main(rt: HostRuntime) -> io::Result<()> {
@@ -11,7 +10,7 @@ fn main(rt: HostRuntime) -> io::Result<()> {
     let mut text = [0u8; 65536];
     let printed = encoder_print::print_source(&source[..n], &mut text);
     match printed {
-        Printed::Is(m) => rt.write_all(&text[..m]),
-        Printed::TextTooShort => Ok(()),
+        Some(m) => rt.write_all(&text[..m]),
+        None => Ok(()),
     }
 }

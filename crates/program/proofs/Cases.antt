@@ -1,5 +1,6 @@
 -- Inputs that separate likely misreadings of words, bytecode text, listing rows, lent texts and refusals 21 to 24, by computation. Expected values:
 -- document 01, READINGS 23 to 25, and `encode` and `get_asm_form_code` of core/src/program/binary_program.rs.
+use Rattle.std.specs.Prelude.{Some, None}
 use Prim.Native.Nat.{ℕ, ◌^◌}
 use mathlib.Core.Path.{◌≡◌, refl}
 use mathlib.Core.List.{List, [], ◌∷◌, map}
@@ -26,14 +27,13 @@ use Rattle.program.specs.declared.WriteRefusal.TheVariants.{TextTooShort}
 use Rattle.program.specs.declared.RowRefusal.{RowRefusal}
 use Rattle.program.specs.declared.RowRefusal.TheVariants.{NumberTooLarge as RowNumberTooLarge, PlaceEmpty, TextTooShort as RowTextTooShort}
 use Rattle.program.specs.declared.BinaryInstruction.{BinaryInstruction}
-use Rattle.program.specs.declared.SecondWord.TheVariants.{Number, Nothing}
 use Rattle.program.specs.declared.InstructionWords.{InstructionWords}
 
 abbrev one : ℕ → Answer InstructionWords
-one w = ok (record { first = w; second = Nothing })
+one w = ok (record { first = w; second = None })
 
 abbrev two : ℕ → ℕ → Answer InstructionWords
-two w v = ok (record { first = w; second = Number v })
+two w v = ok (record { first = w; second = Some v })
 
 abbrev r1 : OlaOperand
 r1 = RegisterOperand R1

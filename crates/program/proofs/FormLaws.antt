@@ -1,11 +1,11 @@
 -- Instructions of canonical form: their second words show in their first, and lie below p where their numbers do.
+use Rattle.std.specs.Prelude.{Option, Some, None, slice_get}
 use Prim.Native.Nat.{ℕ, zero, suc, ◌+◌, ◌^◌, ◌<◌}
 use mathlib.Core.Path.{◌≡◌, refl, sym, ap, ap₂, ◌∙◌}
 use mathlib.Core.List.{List, ◌++◌, map}
 use mathlib.Core.Bool.{Bool, true, false, ◌||◌, cond, or_comm}
-use mathlib.Core.Option.{Option, none, some, some-injective, none-ne-some}
 use native.Mathlib.Omega.{arith}
-use lib.ListN.{length, take, get_elem?, length-append}
+use lib.ListN.{length, take, length-append}
 use Rattle.text.specs.Lists.{total}
 use Rattle.text.specs.All.{All, none_left, one_more}
 use Rattle.text.proofs.EntryLaws.{at_behind}
@@ -19,28 +19,29 @@ use Rattle.program.specs.Groups.{has_second}
 use Rattle.program.specs.declared.BinaryInstruction.{BinaryInstruction}
 use Rattle.program.specs.CanonicalForm.{CanonicalForm, plain, numbered, offset, factored, or_empty, BelowOrder, no_number, below, InOrder}
 use Rattle.program.proofs.WordLaws.{first_lt, finds_second}
+use Rattle.std.proofs.lemmas.Option.{none-some, same_Some}
 
 -- whether there is one
 abbrev pub is_some : {A : Type 0} → Option A → Bool
-is_some none = false
-is_some (some a) = true
+is_some None = false
+is_some (Some a) = true
 
 -- a register or nothing carries no number
-carries_none : (a : Option OlaRegister) → carried (or_empty a) ≡ none
-carries_none none = refl
-carries_none (some r) = refl
+carries_none : (a : Option OlaRegister) → carried (or_empty a) ≡ None
+carries_none None = refl
+carries_none (Some r) = refl
 
 -- registers and empty places have no second word; a number in op1 is the second word
 module _ (o : OlaOpcode) (a : Option OlaRegister) where
-  pub second_none : (b d : Option OlaRegister) → second_word (made o (or_empty a) (or_empty b) (or_empty d)) ≡ none
+  pub second_none : (b d : Option OlaRegister) → second_word (made o (or_empty a) (or_empty b) (or_empty d)) ≡ None
   second_none b d = rw (carries_none d, carries_none b, carries_none a)
 
-  pub second_number : (d : Option OlaRegister) (v : ImmediateValue) → second_word (made o (or_empty a) (ImmediateOperand v) (or_empty d)) ≡ some v.number
+  pub second_number : (d : Option OlaRegister) (v : ImmediateValue) → second_word (made o (or_empty a) (ImmediateOperand v) (or_empty d)) ≡ Some v.number
   second_number d v = rw (carries_none d)
 
 is_no_number : (a : Option OlaRegister) → is_number (or_empty a) ≡ false
-is_no_number none = refl
-is_no_number (some r) = refl
+is_no_number None = refl
+is_no_number (Some r) = refl
 
 -- there is a second word exactly for a number in op1 and for mload and mstore
 pub second_shows : (i : BinaryInstruction) → CanonicalForm i → is_some (second_word i) ≡ (is_number i.op1 || is_memory i.opcode)
@@ -58,8 +59,8 @@ pub words_emitted : (i : BinaryInstruction) → CanonicalForm i → length (word
 words_emitted i c = counted (second_word i) ∙ ap (λ b. cond b 2 1) (second_shows i c ∙ or_comm (is_number i.op1) (is_memory i.opcode))
   where
     counted : (v : Option ℕ) → length (in_order (first_word i) v) ≡ cond (is_some v) 2 1
-    counted none = refl
-    counted (some v) = refl
+    counted None = refl
+    counted (Some v) = refl
 
 -- the words of the first n instructions are the words before instruction n
 pub words_before_lem : (is : List BinaryInstruction) → All CanonicalForm is → (n : ℕ) → length (program_words (take n is)) ≡ words_before is n
@@ -70,17 +71,17 @@ words_before_lem is (one_more {x = i} {xs = is'} c cs) (suc n) =
     length-append (words_of i) (program_words (take n is')) ∙ ap₂ ◌+◌ (words_emitted i c) (words_before_lem is' cs n)
 
 -- where the words before an instruction end, its first word stands
-pub first_there : (is : List BinaryInstruction) → All CanonicalForm is → (n : ℕ) (i : BinaryInstruction) → get_elem? is n ≡ some i
-    → get_elem? (program_words is) (words_before is n) ≡ some (first_word i)
+pub first_there : (is : List BinaryInstruction) → All CanonicalForm is → (n : ℕ) (i : BinaryInstruction) → slice_get is n ≡ Some i
+    → slice_get (program_words is) (words_before is n) ≡ Some (first_word i)
 unfolding program_words total
-first_there is none_left n i e = absurd (none-ne-some i e)
-first_there is (one_more {x = j} {xs = js} c cs) zero i e = first (second_word j) ∙ ap (λ (b : BinaryInstruction). some (first_word b)) (some-injective j i e)
+first_there is none_left n i e = absurd (none-some i e)
+first_there is (one_more {x = j} {xs = js} c cs) zero i e = first (second_word j) ∙ ap (λ (b : BinaryInstruction). Some (first_word b)) (same_Some j i e)
   where
-    first : (v : Option ℕ) → get_elem? (in_order (first_word j) v ++ program_words js) 0 ≡ some (first_word j)
-    first none = refl
-    first (some v) = refl
+    first : (v : Option ℕ) → slice_get (in_order (first_word j) v ++ program_words js) 0 ≡ Some (first_word j)
+    first None = refl
+    first (Some v) = refl
 first_there is (one_more {x = j} {xs = js} c cs) (suc n) i e =
-    ap (λ (k : ℕ). get_elem? (words_of j ++ program_words js) (k + words_before js n)) (sym (words_emitted j c))
+    ap (λ (k : ℕ). slice_get (words_of j ++ program_words js) (k + words_before js n)) (sym (words_emitted j c))
     ∙ at_behind (words_of j) (program_words js) (words_before js n)
     ∙ first_there js cs n i e
 

@@ -1,15 +1,14 @@
 -- A first word is a sum of fields, each below the next one's unit, so each field of the instruction is found in it, whatever its places hold.
+use Rattle.std.specs.Prelude.{Option, Some, None}
 use Prim.Native.Nat.{ℕ, ◌+◌, ◌-◌, ◌*◌, ◌/◌, ◌%◌, ◌^◌, ◌<◌}
 use mathlib.Core.Path.{◌≡◌, refl, sym, ap, ap₂, ◌∙◌, fun_ext}
 use mathlib.Core.Bool.{Bool, true, false, ◌||◌, cond, or_assoc}
-use mathlib.Core.Option.{Option, none, some}
 use native.Mathlib.Nat.{mul_comm, zero-mul}
 use native.Mathlib.Omega.{arith}
 use lib.Dec.{eqb, lit<}
 use lib.Pow.{pow-add, pow-lt, shr-shr, field, mod-mod-pow}
 use Rattle.vm_opcodes.specs.Operations.{operations, operation_bit, bit, first_operation, operation_in}
 use Rattle.vm_opcodes.specs.declared.OlaOpcode.{OlaOpcode}
-use Rattle.vm_opcodes.specs.declared.OpcodeFound.TheVariants.{Is as IsOpcode, Nothing as NoOpcode}
 use Rattle.vm_opcodes.proofs.Laws.{agree, bit_most}
 use Rattle.vm_opcodes.proofs.Variants.{each}
 use Rattle.vm_hardware.specs.Registers.{registers, register_index, place_bit, first_register, register_in as registerOfWord}
@@ -18,8 +17,6 @@ use Rattle.vm_hardware.specs.declared.OlaRegister.{OlaRegister}
 use Rattle.vm_hardware.specs.contracts.OlaRegister.{enum}
 use Rattle.vm_hardware.specs.declared.Place.{Place}
 use Rattle.vm_hardware.specs.declared.Place.TheVariants.{Op0, Op1, Dst}
-use Rattle.vm_hardware.specs.declared.RegisterFound.{RegisterFound}
-use Rattle.vm_hardware.specs.declared.RegisterFound.TheVariants.{Is as IsRegister, Nothing as NoRegister}
 use Rattle.vm_operands.specs.declared.OlaOperand.{OlaOperand}
 use Rattle.program.specs.Instructions.{is_number, register_in, is_memory}
 use Rattle.program.specs.Words.{register_bits, number_bit, first_word}
@@ -27,18 +24,18 @@ use Rattle.program.specs.Groups.{has_second}
 use Rattle.program.specs.declared.BinaryInstruction.{BinaryInstruction}
 
 -- a register or none, as the search in a word answers it
-abbrev pub found_of : Option OlaRegister → RegisterFound
-found_of none = NoRegister
-found_of (some r) = IsRegister r
+abbrev pub found_of : Option OlaRegister → Option OlaRegister
+found_of None = None
+found_of (Some r) = Some r
 
 -- a register field's value
 abbrev hot : Option OlaRegister → ℕ
-hot none = 0
-hot (some r) = 2 ^ register_index r
+hot None = 0
+hot (Some r) = 2 ^ register_index r
 
 hot_lt : (o : Option OlaRegister) → hot o < 2 ^ 10
-hot_lt none = lit< tt
-hot_lt (some r) = pow-lt {i = register_index r} {j = 10} (index_lt r)
+hot_lt None = lit< tt
+hot_lt (Some r) = pow-lt {i = register_index r} {j = 10} (index_lt r)
 
 -- the number field's value
 abbrev one : Bool → ℕ
@@ -50,8 +47,8 @@ one_lt true = lit< tt
 one_lt false = lit< tt
 
 register_bits_lem : (place : Place) (o : Option OlaRegister) → register_bits place o ≡ hot o * 2 ^ place_bit place
-register_bits_lem place none = sym (zero-mul (2 ^ place_bit place))
-register_bits_lem place (some r) = pow-add 2 (place_bit place) (register_index r) ∙ mul_comm (2 ^ place_bit place) (2 ^ register_index r)
+register_bits_lem place None = sym (zero-mul (2 ^ place_bit place))
+register_bits_lem place (Some r) = pow-add 2 (place_bit place) (register_index r) ∙ mul_comm (2 ^ place_bit place) (2 ^ register_index r)
 
 number_bit_lem : (o : OlaOperand) → number_bit o ≡ one (is_number o) * 2 ^ 62
 number_bit_lem o = go (is_number o)
@@ -82,8 +79,8 @@ field_bit w m v k h e =
 -- the lowest register of a field
 lowest_hot : (o : Option OlaRegister) → first_register (λ r. bit (register_index r) (hot o)) registers ≡ found_of o
 unfolding registers first_register
-lowest_hot none = refl
-lowest_hot (some r) = each enum tt (λ q. first_register (λ p. bit (register_index p) (hot (some q))) registers) (λ q. found_of (some q)) refl r
+lowest_hot None = refl
+lowest_hot (Some r) = each enum tt (λ q. first_register (λ p. bit (register_index p) (hot (Some q))) registers) (λ q. found_of (Some q)) refl r
 
 register_found : (place : Place) (w : ℕ) (o : Option OlaRegister) → w / 2 ^ place_bit place % 2 ^ 10 ≡ hot o → registerOfWord place w ≡ found_of o
 register_found place w o e =
@@ -93,9 +90,9 @@ register_found place w o e =
     ∙ lowest_hot o
 
 -- the highest operation of a word with one operation's bit
-highest_one : (o : OlaOpcode) → first_operation (λ q. bit (operation_bit q) (2 ^ operation_bit o)) operations ≡ IsOpcode o
+highest_one : (o : OlaOpcode) → first_operation (λ q. bit (operation_bit q) (2 ^ operation_bit o)) operations ≡ Some o
 unfolding operations first_operation
-highest_one = agree IsOpcode (λ o. first_operation (λ q. bit (operation_bit q) (2 ^ operation_bit o)) operations) NoOpcode refl
+highest_one = agree Some (λ o. first_operation (λ q. bit (operation_bit q) (2 ^ operation_bit o)) operations) None refl
 
 -- bits 22 and 21 are those of mload and mstore
 memory_one : (o : OlaOpcode) → (bit 22 (2 ^ operation_bit o) || bit 21 (2 ^ operation_bit o)) ≡ is_memory o
@@ -122,7 +119,7 @@ module _ (i : BinaryInstruction) where
   first_lt = shown.0
 
   -- the operation found in it is the instruction's
-  pub finds_operation : operation_in (first_word i) ≡ IsOpcode i.opcode
+  pub finds_operation : operation_in (first_word i) ≡ Some i.opcode
   finds_operation =
       ap (λ test. first_operation test operations)
       (fun_ext (λ q. field_bit (first_word i) 32 (2 ^ operation_bit i.opcode) (operation_bit q) (omega (arith, bit_most q)) shown.5))

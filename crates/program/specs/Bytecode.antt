@@ -1,13 +1,12 @@
 -- Bytecode text: "Given words alone, the bytecode writer takes a word after one with bit 62, 22 or 21 as a number."
-use Rattle.std.specs.Prelude.{ℕ, List, [], ◌∷◌, ◌++◌, ltb, length}
-use Rattle.std.proofs.Math.Option.{Option, none, some}
+use Rattle.std.specs.Prelude.{ℕ, List, [], ◌∷◌, ◌++◌, ltb, length, Option, Some, None}
 use Rattle.text.specs.Answer.{Answer, ok, ◌>>◌, refuse_if, over, on_ok}
 use Rattle.text_write.specs.Digits.{fewest_text, sixteen_text}
 use Rattle.program.specs.Groups.{Group, word_groups}
 
 abbrev pub second_line : Option ℕ → List (List ℕ)
-second_line none = []
-second_line (some v) = fewest_text v ∷ []
+second_line None = []
+second_line (Some v) = fewest_text v ∷ []
 
 -- "The first word is printed as `0x` and sixteen digits"; a number "`0x` and the fewest lower-case digits"
 abbrev pub group_lines : Group ℕ → List (List ℕ)

@@ -1,6 +1,5 @@
 -- The forms that instructions of accepted sources have, and numbers below p.
-use Rattle.std.specs.Prelude.{ℕ, ◌<◌, ◌≡◌, true, false}
-use Rattle.std.proofs.Math.Option.{Option, none, some}
+use Rattle.std.specs.Prelude.{ℕ, ◌<◌, ◌≡◌, true, false, Option, Some, None}
 use Rattle.vm_opcodes.specs.declared.OlaOpcode.{OlaOpcode}
 use Rattle.vm_hardware.specs.declared.OlaRegister.{OlaRegister}
 use Rattle.vm_operands.specs.Numbers.{order}
@@ -12,8 +11,8 @@ use Rattle.program.specs.declared.BinaryInstruction.{BinaryInstruction}
 
 -- a register, or nothing
 abbrev pub or_empty : Option OlaRegister → OlaOperand
-or_empty none = Empty
-or_empty (some r) = RegisterOperand r
+or_empty None = Empty
+or_empty (Some r) = RegisterOperand r
 
 pub data CanonicalForm : BinaryInstruction → Type 0 where
   -- registers or nothing in every place
@@ -29,8 +28,8 @@ pub data CanonicalForm : BinaryInstruction → Type 0 where
 
 -- a number, if there is one, below p
 pub data BelowOrder : Option ℕ → Type 0 where
-  no_number : BelowOrder none
-  below : {v : ℕ} → v < order → BelowOrder (some v)
+  no_number : BelowOrder None
+  below : {v : ℕ} → v < order → BelowOrder (Some v)
 
 -- every number of an instruction is below p
 pub record InOrder (i : BinaryInstruction) : Type 0 where

@@ -1,6 +1,5 @@
 -- "An instruction has three places, 0 op0, 1 op1 and 2 dst, each empty or holding one of the five contents of `OlaOperand`."
-use Rattle.std.specs.Prelude.{ℕ, Bool, true, false, not, ◌||◌, eqb, ltb}
-use Rattle.std.proofs.Math.Option.{Option, none, some}
+use Rattle.std.specs.Prelude.{ℕ, Bool, true, false, not, ◌||◌, eqb, ltb, Option, Some, None}
 use Rattle.vm_opcodes.specs.Operations.{operation_bit}
 use Rattle.vm_opcodes.specs.declared.OlaOpcode.{OlaOpcode}
 use Rattle.vm_hardware.specs.declared.OlaRegister.{OlaRegister}
@@ -27,25 +26,25 @@ is_number (SpecialReg s) = false
 
 -- the number, offset or factor that a content carries
 abbrev pub carried : OlaOperand → Option ℕ
-carried Empty = none
-carried (ImmediateOperand v) = some v.number
-carried (RegisterOperand r) = none
-carried (RegisterWithOffset r v) = some v.number
-carried (RegisterWithFactor r v) = some v.number
-carried (SpecialReg s) = none
+carried Empty = None
+carried (ImmediateOperand v) = Some v.number
+carried (RegisterOperand r) = None
+carried (RegisterWithOffset r v) = Some v.number
+carried (RegisterWithFactor r v) = Some v.number
+carried (SpecialReg s) = None
 
 -- the register that a content has
 abbrev pub register_in : OlaOperand → Option OlaRegister
-register_in Empty = none
-register_in (ImmediateOperand v) = none
-register_in (RegisterOperand r) = some r
-register_in (RegisterWithOffset r v) = some r
-register_in (RegisterWithFactor r v) = some r
-register_in (SpecialReg s) = none
+register_in Empty = None
+register_in (ImmediateOperand v) = None
+register_in (RegisterOperand r) = Some r
+register_in (RegisterWithOffset r v) = Some r
+register_in (RegisterWithFactor r v) = Some r
+register_in (SpecialReg s) = None
 
 abbrev pub is_too_large : Option ℕ → Bool
-is_too_large none = false
-is_too_large (some n) = not (ltb n order)
+is_too_large None = false
+is_too_large (Some n) = not (ltb n order)
 
 -- 21: "a number of p or more", looked for in "the numbers, offsets and factors of all three places"
 abbrev pub has_too_large : BinaryInstruction → Bool

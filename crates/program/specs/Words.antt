@@ -1,6 +1,5 @@
 -- "Instructions and words": the first word's bits and the second word.
-use Rattle.std.specs.Prelude.{ℕ, ◌+◌, ◌^◌, List, [], ◌∷◌, ◌++◌, map, Bool, true, false, not, ◌||◌, cond, take}
-use Rattle.std.proofs.Math.Option.{Option, none, some}
+use Rattle.std.specs.Prelude.{ℕ, ◌+◌, ◌^◌, List, [], ◌∷◌, ◌++◌, map, Bool, true, false, not, ◌||◌, cond, take, Option, Some, None}
 use Rattle.text.specs.Lists.{total}
 use Rattle.text.specs.Answer.{Answer, ok, ◌>>◌, refuse_if, refuse_at}
 use Rattle.vm_opcodes.specs.Operations.{operation_bit}
@@ -13,14 +12,12 @@ use Rattle.vm_operands.specs.declared.OlaOperand.{OlaOperand}
 use Rattle.vm_operands.specs.declared.OlaOperand.TheVariants.{Empty, ImmediateOperand, RegisterOperand, RegisterWithOffset, RegisterWithFactor, SpecialReg}
 use Rattle.program.specs.Instructions.{is_number, carried, register_in, has_too_large, is_memory, is_mov}
 use Rattle.program.specs.declared.BinaryInstruction.{BinaryInstruction}
-use Rattle.program.specs.declared.SecondWord.{SecondWord}
-use Rattle.program.specs.declared.SecondWord.TheVariants.{Number, Nothing}
 use Rattle.program.specs.declared.InstructionWords.{InstructionWords}
 
 -- the bit of a place's register, "op0 52 plus the register, op1 42 plus it, dst 32 plus it"; no register, no bit
 abbrev pub register_bits : Place → Option OlaRegister → ℕ
-register_bits place none = 0
-register_bits place (some r) = 2 ^ register_bit place r
+register_bits place None = 0
+register_bits place (Some r) = 2 ^ register_bit place r
 
 -- "A number in op1 sets bit 62"
 abbrev pub number_bit : OlaOperand → ℕ
@@ -33,16 +30,16 @@ first_word i =
     + 2 ^ operation_bit i.opcode
 
 abbrev pub last_of : Option ℕ → Option ℕ → Option ℕ
-last_of earlier (some n) = some n
-last_of earlier none = earlier
+last_of earlier (Some n) = Some n
+last_of earlier None = earlier
 
 -- "The second word is the number; where several places carry one, the last of op0, op1, dst"
 abbrev pub second_word : BinaryInstruction → Option ℕ
 second_word i = last_of (last_of (carried i.op0) (carried i.op1)) (carried i.dst)
 
 abbrev pub in_order : ℕ → Option ℕ → List ℕ
-in_order w none = w ∷ []
-in_order w (some v) = w ∷ v ∷ []
+in_order w None = w ∷ []
+in_order w (Some v) = w ∷ v ∷ []
 
 -- the words of an instruction, and of a program
 abbrev pub words_of : BinaryInstruction → List ℕ
@@ -83,18 +80,14 @@ rejected_in_op1 o (SpecialReg s) = not (is_mov o)
 -- 22: "a content that `encode` rejects (place 0, 1 or 2, first in that order)"
 abbrev pub rejected_place : BinaryInstruction → Option ℕ
 rejected_place i =
-    cond (rejected_aside i.op0) (some 0)
-    (cond (rejected_in_op1 i.opcode i.op1) (some 1)
-    (cond (rejected_aside i.dst) (some 2)
-    none))
-
-abbrev pub second_of : Option ℕ → SecondWord
-second_of none = Nothing
-second_of (some v) = Number v
+    cond (rejected_aside i.op0) (Some 0)
+    (cond (rejected_in_op1 i.opcode i.op1) (Some 1)
+    (cond (rejected_aside i.dst) (Some 2)
+    None))
 
 -- "Encoding one instruction: 21 a number of p or more; 22 a content that `encode` rejects"
 unfoldable pub encoded : BinaryInstruction → Answer InstructionWords
 encoded i = do
   refuse_if (has_too_large i) 21
   refuse_at (rejected_place i) 22
-  ok (record { first = first_word i; second = second_of (second_word i) })
+  ok (record { first = first_word i; second = second_word i })

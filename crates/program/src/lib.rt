@@ -17,18 +17,11 @@ pub struct BinaryInstruction {
     pub dst: OlaOperand,
 }
 
-// The second word of an instruction, or that it has none.
-#[derive(Clone, Copy)]
-pub enum SecondWord {
-    Number(u64),
-    Nothing,
-}
-
 // The words of one instruction.
 #[derive(Clone, Copy)]
 pub struct InstructionWords {
     pub first: u64,
-    pub second: SecondWord,
+    pub second: Option<u64>,
 }
 
 // Why an instruction is not encoded.

@@ -1,63 +1,47 @@
 -- Laws of the writers of lines and words, in the shapes in which the functions ask for them.
-use Prim.Native.Nat.{ℕ, suc, ◌+◌, ◌-◌, ◌^◌, ◌<◌, ◌≤◌}
+use Rattle.std.specs.Prelude.{Option, Ok, Err}
+use Prim.Native.Nat.{ℕ, ◌+◌, ◌-◌, ◌*◌, ◌^◌, ◌<◌, ◌≤◌}
 use mathlib.Core.Path.{◌≡◌, sym, ap, ◌∙◌}
 use mathlib.Core.List.{List, [], ◌++◌}
 use mathlib.Core.Bool.{Bool, true, false, not}
 use native.Mathlib.Omega.{arith}
 use native.Mathlib.Nat.{zero-add}
-use native.Mathlib.Numerals.{add-one}
 use borrow.Author.Rules.{rules}
-use borrow.Author.Tests.{ne_eqb, le-leb, lt-leb, leb-true, leb-false, lt-ltb, le-ltb, not-true, not-false}
+use borrow.Author.Tests.{ne_eqb, le-leb, lt-leb, leb-true, leb-false, lt-ltb, le-ltb}
 use lib.Dec.{eqb, leb}
-use lib.ListN.{length, get_or, drop, set, length-append, length-set, drop_of_length-le}
+use lib.ListN.{length, get_or, drop, length-append, drop_of_length-le}
 use lib.Seq.{sets}
 use mir.Val.{Fits}
 use mir.Syntax.{w64}
+use Rattle.std.specs.Option.{unwrap_or}
 use Rattle.text.specs.Answer.{Answer, ok, refused, ◌>>=◌, ◌>>◌, refuse_if, on_ok}
 use Rattle.text.proofs.AnswerLaws.{sets_over}
 use Rattle.text.proofs.Laws.{drop_next, told_not_true, told_not_false}
-use Rattle.text_write.specs.declared.Put.{Put}
-use Rattle.text_write.specs.declared.Put.TheVariants.{Count, Short}
-use Rattle.text_write.specs.Digits.{fewest_text, sixteen_text}
 use Rattle.text_write.specs.Put.{put_count, put_into}
-use Rattle.text_write.proofs.Laws.{sets_append, put_fits, count_told, never_short, told_adds, length_sixteen, fewest_most}
-use Rattle.program.specs.Groups.{has_second}
+use Rattle.text_write.proofs.Laws.{sets_append, put_fits, count_fits, length_sixteen, fewest_most}
 use Rattle.program.specs.Bytecode.{within, bytecode_of, bytecode_written, text_left}
 use Rattle.program.specs.declared.WriteRefusal.TheVariants.{TextTooShort}
 use Rattle.program_bytecode.specs.Left.{line_text, word_text, asks_number, left_text}
 use Rattle.program_bytecode.specs.Written.{written_numbered, count_of}
-use Rattle.program_bytecode.specs.declared.Written.TheVariants.{Is, Refused}
 use Rattle.program_bytecode.proofs.LeftLaws.{bytecode_left}
 
--- ---- asks_number
-module _ (number : Bool) (w : ℕ) where
-  -- after a first word what its bits say
-  pub asks_second : (t : Bool) → not number ≡ true → t ≡ has_second w → t ≡ asks_number number w
-  asks_second t e f = rw (not-true number e) f
+-- ---- a put that fits: u is the count that it answers
+module _ (d : List ℕ) (at : ℕ) (w : List ℕ) (r : Option ℕ) (u : ℕ) (e : r ≡ put_count d at w) (f : u ≡ unwrap_or r 0) (h : at + length w ≤ length d) where
+  pub put_long : u ≡ length w
+  put_long = f ∙ ap (λ (o : Option ℕ). unwrap_or o 0) (e ∙ count_fits d at w h)
 
-  -- after a number a first word
-  pub asks_none : not number ≡ false → false ≡ asks_number number w
-  asks_none e = rw (not-false number e)
+  -- where it ends
+  pub put_end : at + u ≡ at + length w
+  put_end = ap (λ (k : ℕ). at + k) put_long
 
--- ---- put_line: d is the text
-module _ (d : List ℕ) (at w : ℕ) (number : Bool) where
-  -- what is answered for a number
-  pub number_count : (r : Put) → number ≡ true → r ≡ put_count d at (fewest_text w) → r ≡ put_count d at (line_text number w)
-  number_count r e h = rw e h
+  pub put_adds : length d * 1 < 2 ^ 63 → Fits w64 (at + u)
+  put_adds l = let z = put_end in omega arith
 
-  -- what it leaves
-  pub number_into : (b : List ℕ) → number ≡ true → b ≡ put_into d at (fewest_text w) → b ≡ put_into d at (line_text number w)
-  number_into b e h = rw e h
+  -- and what it leaves
+  pub put_stored : (b : List ℕ) → b ≡ put_into d at w → b ≡ sets d at w
+  put_stored b g = g ∙ put_fits d at w h
 
-  -- what is answered for a first word
-  pub first_count : (r : Put) → number ≡ false → r ≡ put_count d at (sixteen_text w) → r ≡ put_count d at (line_text number w)
-  first_count r e h = rw e h
-
-  -- what it leaves
-  pub first_into : (b : List ℕ) → number ≡ false → b ≡ put_into d at (sixteen_text w) → b ≡ put_into d at (line_text number w)
-  first_into b e h = rw e h
-
-pub ruleset line_laws = (number_count, number_into, first_count, first_into, rules)
+pub ruleset put_laws = (put_end, put_adds, put_stored, rules)
 
 -- ---- line_length and word_length
 
@@ -65,26 +49,6 @@ pub ruleset line_laws = (number_count, number_into, first_count, first_into, rul
 pub line_most : (number : Bool) (w : ℕ) → w < 2 ^ 64 → length (line_text number w) ≤ 18
 line_most true w h = fewest_most w h
 line_most false w h = omega (arith, length_sixteen w)
-
-module _ (number : Bool) (w : ℕ) (h : w < 2 ^ 64) where
-  -- it fits 18 bytes
-  pub line_never_short : (d : List ℕ) (r : Put) → length d ≡ 18 → r ≡ put_count d 0 (line_text number w) → r ≡ Short → ⊥
-  line_never_short d r k e f = never_short d 0 (line_text number w) r e (omega (arith, line_most number w h)) f
-
-  -- one more than its count fits
-  pub line_fits : (n : ℕ) → n ≡ length (line_text number w) → Fits w64 (n + 1)
-  line_fits n e = omega (arith, line_most number w h)
-
-module _ (first number : Bool) (w n : ℕ) (e : n ≡ length (line_text number w)) where
-  -- the first word of all has its line
-  pub first_long : first ≡ true → n ≡ length (word_text first number w)
-  first_long h = rw h e
-
-  -- a later one a line feed more
-  pub later_long : first ≡ false → n + 1 ≡ length (word_text first number w)
-  later_long h = rw h (add-one n ∙ ap suc e)
-
-pub ruleset length_laws = (line_never_short, line_fits, first_long, later_long, count_told, rules)
 
 -- ---- what is left from word i on
 module _ (s : List ℕ) (i : ℕ) (number : Bool) where
@@ -161,54 +125,6 @@ pub ruleset fits_laws = (left_start, left_added, all_fit, word_over, rules)
 
 pub ruleset words_laws = (left_start, left_more, left_end, word_within, written_more, written_end, rules)
 
--- ---- write_line and write_word
-module _ (d : List ℕ) (at : ℕ) (w : List ℕ) (h : at + length w ≤ length d) where
-  -- a put that fits stores the text
-  pub put_stored : (b : List ℕ) → b ≡ put_into d at w → b ≡ sets d at w
-  put_stored b e = e ∙ put_fits d at w h
-
-  module _ (r : Put) (e : r ≡ put_count d at w) where
-    -- and ends behind it
-    pub put_end : (n : ℕ) → r ≡ Count n → at + n ≡ at + length w
-    put_end n f = ap (λ (k : ℕ). at + k) (count_told d at w r e n f)
-
-    -- it is not refused
-    pub put_never_short : r ≡ Short → ⊥
-    put_never_short f = never_short d at w r e h f
-
-pub ruleset write_line_laws = (put_stored, put_end, put_never_short, told_adds, rules)
-
-module _ (d : List ℕ) (at w : ℕ) (first number : Bool) (h : at + length (word_text first number w) ≤ length d) where
-  -- the first word: its line has room
-  pub first_within : first ≡ true → at + length (line_text number w) ≤ length d
-  first_within e = rw e at h
-
-  -- it ends with it
-  pub first_end : (r : ℕ) → first ≡ true → r ≡ at + length (line_text number w) → r ≡ at + length (word_text first number w)
-  first_end r e f = rw e f
-
-  -- what it leaves
-  pub first_stored : (b : List ℕ) → first ≡ true → b ≡ sets d at (line_text number w) → b ≡ sets d at (word_text first number w)
-  first_stored b e f = rw e f
-
-  -- a later one: the line feed has room
-  pub feed_within : first ≡ false → at < length d
-  feed_within e = let k : at + suc (length (line_text number w)) ≤ length d = rw e at h in omega arith
-
-  -- and its line behind it
-  pub later_within : first ≡ false → (at + 1) + length (line_text number w) ≤ length (set d at 10)
-  later_within e = let k : at + suc (length (line_text number w)) ≤ length d = rw e at h in simp length-set (omega arith)
-
-  -- it ends with the line
-  pub later_end : (r : ℕ) → first ≡ false → r ≡ (at + 1) + length (line_text number w) → r ≡ at + length (word_text first number w)
-  later_end r e f = rw e (omega arith)
-
-  -- what it leaves
-  pub later_stored : (b : List ℕ) → first ≡ false → b ≡ sets (set d at 10) (at + 1) (line_text number w) → b ≡ sets d at (word_text first number w)
-  later_stored b e f = rw e (f ∙ ap (λ (k : ℕ). sets (set d at 10) k (line_text number w)) (add-one at))
-
-pub ruleset write_word_laws = (first_within, first_end, first_stored, feed_within, later_within, later_end, later_stored, rules)
-
 -- ---- a text and the room for it
 
 -- too little: 23
@@ -257,7 +173,7 @@ module _ (s d : List ℕ) (t : Bool) (e : t ≡ leb (length (left_text true fals
   fit_long h = rw (bytecode_left s) (words_fit h)
 
   -- 23 is answered
-  pub short_answer : not t ≡ true → written_numbered (Refused TextTooShort) ≡ count_of (bytecode_written s (length d))
+  pub short_answer : not t ≡ true → written_numbered (Err TextTooShort) ≡ count_of (bytecode_written s (length d))
   short_answer h = short_left d (bytecode_of s) (over_long h)
 
   -- and the text left as it was
@@ -265,7 +181,7 @@ module _ (s d : List ℕ) (t : Bool) (e : t ≡ leb (length (left_text true fals
   short_text h = kept_left d (bytecode_of s) (over_long h)
 
   -- the count is answered
-  pub done_answer : (n : ℕ) → not t ≡ false → n ≡ length (left_text true false s) → written_numbered (Is n) ≡ count_of (bytecode_written s (length d))
+  pub done_answer : (n : ℕ) → not t ≡ false → n ≡ length (left_text true false s) → written_numbered (Ok n) ≡ count_of (bytecode_written s (length d))
   done_answer n h f = ap ok (f ∙ ap length (sym (bytecode_left s))) ∙ count_left d (bytecode_of s) (fit_long h)
 
   -- and the bytecode written

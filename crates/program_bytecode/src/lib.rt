@@ -10,46 +10,32 @@ ghost use Rattle.program_bytecode.specs.Left.{line_text, word_text, asks_number,
 ghost use Rattle.program_bytecode.specs.Written.{written_numbered, count_of};
 
 use program::{BinaryInstruction, WriteRefusal};
-use text_write::Put;
-
-// How many bytes were written, or why none.
-#[derive(Clone, Copy)]
-pub enum Written {
-    Is(usize),
-    Refused(WriteRefusal),
-}
 
 // Whether the word has the bit of a number in op1, of mload or of mstore: 62, 22 or 21.
 fn has_second(word: u64) -> bool
     ensures { result ≡ has_second word }
 {
-    if (word >> BinaryInstruction::BIT_SHIFT_OP1_IMM) % 2 == 1 {
-        return true;
-    }
-    if (word >> vm_tables::MLOAD_SHIFT) % 2 == 1 {
-        return true;
-    }
-    (word >> vm_tables::MSTORE_SHIFT) % 2 == 1
+    (word >> BinaryInstruction::BIT_SHIFT_OP1_IMM) % 2 == 1
+        || (word >> vm_tables::MLOAD_SHIFT) % 2 == 1
+        || (word >> vm_tables::MSTORE_SHIFT) % 2 == 1
 }
 
 // Whether the word after this one is a number: not where this one is a number itself.
 pub fn asks_number(number: bool, word: u64) -> bool
     ensures { result ≡ asks_number number word }
 {
-    if !number {
-        return has_second(word);
-    }
-    false
+    !number && has_second(word)
 }
 
 // Writes the line of a word: a number with the fewest digits, a first word with sixteen.
-pub fn put_line(text: &mut [u8], at: usize, number: bool, word: u64) -> Put
+pub fn put_line(text: &mut [u8], at: usize, number: bool, word: u64) -> Option<usize>
     ensures { (result ≡ put_count text.old at (line_text number word)) × (text.new ≡ put_into text.old at (line_text number word)) }
 {
     if number {
-        return text_digits::put_fewest(text, at, word);
+        text_digits::put_fewest(text, at, word)
+    } else {
+        text_digits::put_sixteen(text, at, word)
     }
-    text_digits::put_sixteen(text, at, word)
 }
 
 // How many bytes the line of a word has.
@@ -57,11 +43,7 @@ fn line_length(number: bool, word: u64) -> usize
     ensures { result ≡ length (line_text number word) }
 {
     let mut line = [0u8; 18];
-    let put = put_line(&mut line, 0, number, word);
-    match put {
-        Put::Count(n) => n,
-        Put::Short => 0,
-    }
+    put_line(&mut line, 0, number, word).unwrap_or(0)
 }
 
 // How many bytes a word has in the text: its line, after a line feed where it is not the first.
@@ -69,10 +51,7 @@ fn word_length(first: bool, number: bool, word: u64) -> usize
     ensures { result ≡ length (word_text first number word) }
 {
     let n = line_length(number, word);
-    if first {
-        return n;
-    }
-    n + 1
+    if first { n } else { n + 1 }
 }
 
 // Whether the text of the words has at most so many bytes.
@@ -81,16 +60,13 @@ fn fits(words: &[u64], room: usize) -> bool
 {
     let mut at: usize = 0;
     let mut number = false;
-    let mut i: usize = 0;
-    while i < words.len() {
-        let word = words[i];
+    for (i, &word) in words.iter().enumerate() {
         let n = word_length(i == 0, number, word);
         if room - at < n {
             return false;
         }
         at += n;
         number = asks_number(number, word);
-        i += 1;
     }
     true
 }
@@ -100,11 +76,7 @@ fn write_line(text: &mut [u8], at: usize, number: bool, word: u64) -> usize
     requires { at + length (line_text number word) ≤ length text.old }
     ensures { (result ≡ at + length (line_text number word)) × (text.new ≡ sets text.old at (line_text number word)) }
 {
-    let put = put_line(text, at, number, word);
-    match put {
-        Put::Count(n) => at + n,
-        Put::Short => at,
-    }
+    at + put_line(text, at, number, word).unwrap_or(0)
 }
 
 // Writes a word where it fits: its line, after a line feed where it is not the first; and says where it ends.
@@ -113,10 +85,11 @@ fn write_word(text: &mut [u8], at: usize, first: bool, number: bool, word: u64) 
     ensures { (result ≡ at + length (word_text first number word)) × (text.new ≡ sets text.old at (word_text first number word)) }
 {
     if first {
-        return write_line(text, at, number, word);
+        write_line(text, at, number, word)
+    } else {
+        text[at] = b'\n';
+        write_line(text, at + 1, number, word)
     }
-    text[at] = b'\n';
-    write_line(text, at + 1, number, word)
 }
 
 // Writes the text of the words where it fits, and says how many bytes it has.
@@ -126,24 +99,20 @@ fn write_words(words: &[u64], text: &mut [u8]) -> usize
 {
     let mut at: usize = 0;
     let mut number = false;
-    let mut i: usize = 0;
-    while i < words.len() {
-        let word = words[i];
+    for (i, &word) in words.iter().enumerate() {
         at = write_word(text, at, i == 0, number, word);
         number = asks_number(number, word);
-        i += 1;
     }
     at
 }
 
 // Writes the bytecode text of words alone, or leaves the text as it is where it is too short.
 // Promises: bytecode_left, same_bytecode, source_reads_again.
-pub fn write_bytecode(words: &[u64], text: &mut [u8]) -> Written
+pub fn write_bytecode(words: &[u64], text: &mut [u8]) -> Result<usize, WriteRefusal>
     ensures { (written_numbered result ≡ count_of (bytecode_written words.now (length text.old))) × (text.new ≡ text_left (bytecode_written words.now (length text.old)) text.old) }
 {
     if !fits(words, text.len()) {
-        return Written::Refused(WriteRefusal::TextTooShort);
+        return Err(WriteRefusal::TextTooShort);
     }
-    let n = write_words(words, text);
-    Written::Is(n)
+    Ok(write_words(words, text))
 }

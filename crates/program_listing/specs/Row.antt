@@ -1,5 +1,5 @@
 -- A listing row in two steps, as it is written: whether a place that it needs is empty, and its text where none is; what writing it answers.
-use Rattle.std.specs.Prelude.{ℕ, List, [], ◌++◌, Bool, true, false, ◌||◌}
+use Rattle.std.specs.Prelude.{ℕ, List, [], ◌++◌, Bool, true, false, ◌||◌, Result, Ok, Err}
 use Rattle.text.specs.Bytes.{bytes}
 use Rattle.text.specs.Answer.{Answer, ok, refused}
 use Rattle.text_write.specs.Digits.{fewest_text}
@@ -11,12 +11,12 @@ use Rattle.vm_operands.specs.declared.OlaOperand.{OlaOperand}
 use Rattle.vm_operands.specs.declared.OlaOperand.TheVariants.{Empty, ImmediateOperand, RegisterOperand, RegisterWithOffset, RegisterWithFactor, SpecialReg}
 use Rattle.program.specs.Refusals.{row_number, row_detail}
 use Rattle.program.specs.declared.BinaryInstruction.{BinaryInstruction}
-use Rattle.program_listing.specs.declared.RowWritten.{RowWritten}
-use Rattle.program_listing.specs.declared.RowWritten.TheVariants.{Is, Refused}
+use Rattle.program.specs.declared.RowRefusal.{RowRefusal}
+use Rattle.program_listing.specs.Places.{spaced_by, bracketed_by, placed_by}
 
-abbrev pub row_numbered : RowWritten → Answer ℕ
-row_numbered (Is n) = ok n
-row_numbered (Refused f) = refused (row_number f) (row_detail f)
+abbrev pub row_numbered : Result ℕ RowRefusal → Answer ℕ
+row_numbered (Ok n) = ok n
+row_numbered (Err f) = refused (row_number f) (row_detail f)
 
 -- ---- 24: "a place that it needs is empty"
 
@@ -63,17 +63,11 @@ content_text (SpecialReg s) = special_text s
 
 -- "after one space each"
 abbrev pub spaced_text : OlaOperand → List ℕ
-spaced_text o = bytes " " ++ content_text o
+spaced_text = spaced_by content_text
 
 -- `[op0+op1]`, after one space
 abbrev pub bracketed_text : OlaOperand → OlaOperand → List ℕ
-bracketed_text op0 op1 = bytes " [" ++ (content_text op0 ++ (bytes "+" ++ (content_text op1 ++ bytes "]")))
+bracketed_text = bracketed_by content_text 43
 
 abbrev pub placed_text : RowPlaces → BinaryInstruction → List ℕ
-placed_text DstOp0Op1 i = spaced_text i.dst ++ (spaced_text i.op0 ++ spaced_text i.op1)
-placed_text DstOp1 i = spaced_text i.dst ++ spaced_text i.op1
-placed_text DstMemory i = spaced_text i.dst ++ bracketed_text i.op0 i.op1
-placed_text MemoryDst i = bracketed_text i.op0 i.op1 ++ spaced_text i.dst
-placed_text Op0Op1 i = spaced_text i.op0 ++ spaced_text i.op1
-placed_text Op1 i = spaced_text i.op1
-placed_text Bare i = []
+placed_text = placed_by content_text 43

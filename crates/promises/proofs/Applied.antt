@@ -1,9 +1,7 @@
 -- The promises applied: to document 01's printing source, to two mains, to a label, to two prophets on one host, and to carriage returns.
-use Rattle.std.specs.Prelude.{ℕ, zero, suc, ◌≤◌, ◌<◌, ◌⊎◌, ◌≡◌, refl, true, false, length, take, replicate}
+use Rattle.std.specs.Prelude.{ℕ, zero, suc, ◌≤◌, ◌<◌, ◌⊎◌, ◌≡◌, refl, true, false, length, take, replicate, Some, slice_get}
 use Rattle.std.proofs.Common.{sym, subst, ◌∙◌, arith}
 use mathlib.Core.List.{List, [], ◌∷◌, map, zip_with}
-use Rattle.std.proofs.Math.Option.{some, some-injective, none-ne-some}
-use Rattle.std.proofs.Math.ListN.{get_elem?}
 use Rattle.std.proofs.lemmas.List.{length-replicate}
 use Rattle.text.specs.Bytes.{bytes, is_space, is_digit, is_letter, is_word, same}
 use Rattle.text.specs.Lists.{total}
@@ -48,6 +46,7 @@ use Rattle.decoder.specs.Steps.{run_at, nth_call}
 use Rattle.promises.specs.Terms.{content_at, Stands, IsPosition, IsPositionBefore, HoldsPosition, IsKept}
 use Rattle.promises.specs.Starred.{plenty, printing_source}
 use Rattle.promises.proofs.Promises.{counts_answered, words_left_lem, table_left_lem, columns_left_lem, bytecode_left, room_is_built, counted_is_words, room_refused, room_suffices, room_never_short, run_by_offsets, nth_reads, one_program, bytecode_opens, run_reads, words_ahead, accepted_has_rows, lengths_are_one, addresses_are_positions, instructions_stand, names_are_word_counts, table_is_positions, later_kept, kept_counted, rows_by_lines_lem, same_lines}
+use Rattle.std.proofs.lemmas.Option.{none-some, same_Some}
 
 -- ---- the printing source
 
@@ -184,7 +183,7 @@ printing_call =
     let x =
     names_are_word_counts printing_source [] plenty printing_accepted printing_accepted_lem printing_rows printing_sorted
     1 (record { opcode = CALL; op0 = NoOperand; op1 = Identifier 28 1; dst = NoOperand }) refl in
-    let e : made CALL Empty (a_number 5) Empty ≡ x.0 = some-injective _ _ x.1 in
+    let e : made CALL Empty (a_number 5) Empty ≡ x.0 = same_Some _ _ x.1 in
     subst (λ (b : BinaryInstruction). HoldsPosition (names_of printing_source printing_rows) printing_accepted call_kind 28 1 (content_at Op1 b)) (sym e) ((x.2 Op1 28 1).0 refl)
 
 -- what a caller holds of the table: the addresses in a column of five
@@ -193,13 +192,13 @@ unfolding instructions label_rows total
 printing_column = columns_left_lem printing_source [] plenty printing_accepted printing_accepted_lem printing_rows printing_sorted address_in (replicate 5 7)
 
 -- f's entry of the table, the third, has the position of the `ret`, and the prophet's, the second, that of `call f` before it
-printing_entry : (l : LabelRow) × (some (record { kind = call_kind; start = 0; length = 1; marks = 3; mapped = true }) ≡ some l) × IsPosition printing_accepted l.marks 5
+printing_entry : (l : LabelRow) × (Some (record { kind = call_kind; start = 0; length = 1; marks = 3; mapped = true }) ≡ Some l) × IsPosition printing_accepted l.marks 5
 unfolding instructions label_rows total
 printing_entry =
     let x = table_is_positions printing_source [] plenty printing_accepted printing_accepted_lem printing_rows printing_sorted 2 (record { kind = call_kind; mapped = true; start = 0; length = 1; address = record { 0 = 5 } }) refl refl in
     (x.0, x.1, x.2 refl)
 
-printing_prophet : (l : LabelRow) × (some (record { kind = prophet_kind; start = 30; length = 11; marks = 2; mapped = true }) ≡ some l) × IsPositionBefore printing_accepted l.marks 2
+printing_prophet : (l : LabelRow) × (Some (record { kind = prophet_kind; start = 30; length = 11; marks = 2; mapped = true }) ≡ Some l) × IsPositionBefore printing_accepted l.marks 2
 unfolding instructions label_rows total
 printing_prophet =
     let x = table_is_positions printing_source [] plenty printing_accepted printing_accepted_lem printing_rows printing_sorted 1 (record { kind = prophet_kind; mapped = true; start = 30; length = 11; address = record { 0 = 2 } }) refl refl in
@@ -252,11 +251,11 @@ label_jump_lem : HoldsPosition (names_of label_source label_sorted) label_accept
 unfolding instructions
 label_jump_lem =
     let x = names_are_word_counts label_source [] plenty label_accepted label_accepted_lem label_sorted label_sorted_lem 1 label_jump refl in
-    let e : made JMP Empty (a_number 2) Empty ≡ x.0 = some-injective _ _ x.1 in
+    let e : made JMP Empty (a_number 2) Empty ≡ x.0 = same_Some _ _ x.1 in
     subst (λ (b : BinaryInstruction). HoldsPosition (names_of label_source label_sorted) label_accepted jmp_kind 28 7 (content_at Op1 b)) (sym e) ((x.2 Op1 28 7).1 refl)
 
 -- and the label's entry has that position
-label_entry_lem : (l : LabelRow) × (some (record { kind = jmp_kind; start = 15; length = 7; marks = 1; mapped = true }) ≡ some l) × IsPosition label_accepted l.marks 2
+label_entry_lem : (l : LabelRow) × (Some (record { kind = jmp_kind; start = 15; length = 7; marks = 1; mapped = true }) ≡ Some l) × IsPosition label_accepted l.marks 2
 unfolding instructions label_rows total
 label_entry_lem =
     let x = table_is_positions label_source [] plenty label_accepted label_accepted_lem label_sorted label_sorted_lem 1 (record { kind = jmp_kind; mapped = true; start = 15; length = 7; address = record { 0 = 2 } }) refl refl in
@@ -297,10 +296,10 @@ prophets_words others space b k = (one_program prophets_source prophets_list oth
 prophets_second : IsKept prophets_accepted.hosts 1 1
 prophets_second = (later_kept prophets_source prophets_list plenty prophets_accepted prophets_accepted_lem 1 1).1 (refl, none_after)
   where
-    none_after : (j : ℕ) → 1 < j → get_elem? prophets_accepted.hosts j ≡ some 1 → ⊥
+    none_after : (j : ℕ) → 1 < j → slice_get prophets_accepted.hosts j ≡ Some 1 → ⊥
     none_after zero l e = omega arith
     none_after (suc zero) l e = omega arith
-    none_after (suc (suc j)) l e = none-ne-some 1 e
+    none_after (suc (suc j)) l e = none-some 1 e
 
 -- the first is not,
 prophets_first : IsKept prophets_accepted.hosts 0 1 → ⊥

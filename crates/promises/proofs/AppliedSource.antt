@@ -1,7 +1,6 @@
 -- The promises on the source of a bytecode, applied: to document 01's printing source, and to a bytecode whose first instruction is off its row.
-use Rattle.std.specs.Prelude.{ℕ, ◌+◌, ◌*◌, ◌≤◌, ◌≡◌, refl, List, [], ◌∷◌, false, length, take, drop, replicate}
+use Rattle.std.specs.Prelude.{ℕ, ◌+◌, ◌*◌, ◌≤◌, ◌≡◌, refl, List, [], ◌∷◌, false, length, take, drop, replicate, Some, None}
 use Rattle.std.proofs.Common.{sym, ◌∙◌, arith}
-use Rattle.std.proofs.Math.Option.{none, some, none-ne-some}
 use Rattle.text.specs.Bytes.{bytes}
 use Rattle.text.specs.Scan.{parts}
 use Rattle.text.specs.Lines.{lines, ended}
@@ -19,6 +18,7 @@ use Rattle.promises.proofs.SourcePromise.{no_prophets}
 use Rattle.promises.proofs.Promises.{source_left, source_refused, first_off_row_lem, source_written_lem, source_fits, source_assembles, source_words_fit, source_reads_again, no_row_reads_so, source_of_accepted, source_same_words}
 use Rattle.promises.proofs.Applied.{printing_program, printing_accepted, printing_accepted_lem, printing_opens}
 use Rattle.promises.proofs.AppliedBytecode.{strange, strange_read, strange_opens}
+use Rattle.std.proofs.lemmas.Option.{none-some}
 
 -- ---- the printing source
 
@@ -37,12 +37,12 @@ printing_lines = refl
 printing_on_rows : All (λ i. is_off_row i ≡ false) printing_program
 printing_on_rows = no_row_reads_so printing_source [] plenty printing_accepted printing_accepted_lem
 
-printing_none : first_off_row 0 printing_program ≡ none
+printing_none : first_off_row 0 printing_program ≡ None
 printing_none = (first_off_row_lem printing_bytecode printing_program printing_opens).1.1 printing_on_rows
 
 -- so 26 never comes,
 printing_no_26 : (room k : ℕ) → source_written printing_bytecode room ≡ refused 26 k → ⊥
-printing_no_26 room k e = none-ne-some k (sym printing_none ∙ (source_refused printing_bytecode printing_program printing_opens room k).0 e)
+printing_no_26 room k e = none-some k (sym printing_none ∙ (source_refused printing_bytecode printing_program printing_opens room k).0 e)
 
 -- its 48 bytes are written into as many or more,
 printing_written : (room : ℕ) → 48 ≤ room → source_written printing_bytecode room ≡ ok printing_text
@@ -107,7 +107,7 @@ printing_again_lem = source_reads_again printing_bytecode printing_program print
 
 -- ---- a ret with r1 in dst
 
-strange_first : first_off_row 0 strange_read ≡ some 0
+strange_first : first_off_row 0 strange_read ≡ Some 0
 strange_first = ((first_off_row_lem strange strange_read strange_opens).0 0).1 (_, refl, refl, λ j l b g. absurd (omega arith))
 
 -- 26 comes, with its index, whatever is lent

@@ -1,11 +1,9 @@
 -- Canonical programs are determined by their words and by what is read back from them; numbers below p are their own residues.
-use Rattle.std.specs.Prelude.{ℕ, ◌≡◌, refl, List, [], ◌∷◌, ◌++◌, map}
+use Rattle.std.specs.Prelude.{ℕ, ◌≡◌, refl, List, [], ◌∷◌, ◌++◌, map, Option, Some, None}
 use Rattle.std.proofs.Common.{sym, ap, ap₂, ◌∙◌, mod-eq_of_lt}
-use Rattle.std.proofs.Math.Option.{Option, none, some}
 use Rattle.text.specs.Answer.{ok}
 use Rattle.text.specs.All.{All, none_left, one_more}
 use Rattle.vm_opcodes.specs.Operations.{operation_in}
-use Rattle.vm_opcodes.specs.declared.OpcodeFound.TheVariants.{Is as IsOpcode}
 use Rattle.vm_operands.specs.Numbers.{immediate}
 use Rattle.vm_operands.specs.declared.ImmediateValue.{ImmediateValue}
 use Rattle.vm_operands.specs.declared.OlaOperand.{OlaOperand}
@@ -30,12 +28,12 @@ words_determine i j ci cj e f = as_read_injective i j ci cj (go (second_word j) 
   where
     same_operation : i.opcode ≡ j.opcode
     same_operation =
-        let p : IsOpcode i.opcode ≡ IsOpcode j.opcode = sym (finds_operation i) ∙ ap operation_in e ∙ finds_operation j in
+        let p : Some i.opcode ≡ Some j.opcode = sym (finds_operation i) ∙ ap operation_in e ∙ finds_operation j in
         cc
 
     go : (v : Option ℕ) → second_word i ≡ v → second_word j ≡ v → as_read i ≡ as_read j
-    go none p q = sym (reads_alone i ci p) ∙ ap₂ built_alone same_operation e ∙ reads_alone j cj q
-    go (some v) p q =
+    go None p q = sym (reads_alone i ci p) ∙ ap₂ built_alone same_operation e ∙ reads_alone j cj q
+    go (Some v) p q =
         let r : ok (as_read i) ≡ ok (as_read j) = sym (reads_with 0 i ci v p) ∙ ap₂ (λ o w. built_with 0 o w (immediate v)) same_operation e ∙ reads_with 0 j cj v q in
         cc
 
@@ -43,22 +41,22 @@ words_determine i j ci cj e f = as_read_injective i j ci cj (go (second_word j) 
 
 -- lists that begin with an instruction's words agree in the first word
 first_same : (w x : ℕ) (v u : Option ℕ) (s t : List ℕ) → in_order w v ++ s ≡ in_order x u ++ t → w ≡ x
-first_same w x none none s t h = cc
-first_same w x none (some u) s t h = cc
-first_same w x (some v) none s t h = cc
-first_same w x (some v) (some u) s t h = cc
+first_same w x None None s t h = cc
+first_same w x None (Some u) s t h = cc
+first_same w x (Some v) None s t h = cc
+first_same w x (Some v) (Some u) s t h = cc
 
 -- and, where both or neither have a second word, in that and in the rest
 rest_same : (w x : ℕ) (v u : Option ℕ) (s t : List ℕ) → is_some v ≡ is_some u → in_order w v ++ s ≡ in_order x u ++ t → (v ≡ u) × (s ≡ t)
-rest_same w x none none s t e h = (refl, cc)
-rest_same w x none (some u) s t e h = (cc, cc)
-rest_same w x (some v) none s t e h = (cc, cc)
-rest_same w x (some v) (some u) s t e h = (cc, cc)
+rest_same w x None None s t e h = (refl, cc)
+rest_same w x None (Some u) s t e h = (cc, cc)
+rest_same w x (Some v) None s t e h = (cc, cc)
+rest_same w x (Some v) (Some u) s t e h = (cc, cc)
 
 -- an instruction has a word
 not_empty : (w : ℕ) (v : Option ℕ) (s : List ℕ) → in_order w v ++ s ≡ [] → ◌≡◌ {A = ℕ} 0 1
-not_empty w none s h = cc
-not_empty w (some v) s h = cc
+not_empty w None s h = cc
+not_empty w (Some v) s h = cc
 
 -- equal words mean equal canonical programs
 pub programs_determine : (is js : List BinaryInstruction) → All CanonicalForm is → All CanonicalForm js → program_words is ≡ program_words js → is ≡ js
@@ -81,7 +79,7 @@ as_read_programs (i ∷ is) (j ∷ js) (one_more ci a) (one_more cj b) h = ap₂
 
 -- ---- residues
 
-number_same : (v : ImmediateValue) → BelowOrder (some v.number) → residue v ≡ v
+number_same : (v : ImmediateValue) → BelowOrder (Some v.number) → residue v ≡ v
 number_same v (below h) = ap immediate (mod-eq_of_lt h)
 
 content_same : (o : OlaOperand) → BelowOrder (carried o) → content_residue o ≡ o

@@ -1,9 +1,7 @@
 -- In an accepted source counted lengths are emitted lengths, and names are counts of words.
-use Rattle.std.specs.Prelude.{ℕ, zero, suc, ◌+◌, ◌≡◌, refl, List, ◌∷◌, map, Bool, true, false, ◌||◌, cond, take}
+use Rattle.std.specs.Prelude.{ℕ, zero, suc, ◌+◌, ◌≡◌, refl, List, ◌∷◌, map, Bool, true, false, ◌||◌, cond, take, Option, Some, None, slice_get}
 use Rattle.std.proofs.Common.{sym, ap, ap₂, ◌∙◌, subst, true≢false, arith}
 use Rattle.std.proofs.lemmas.Bool.{false≢true}
-use Rattle.std.proofs.Math.Option.{Option, none, some, some-injective, none-ne-some}
-use Rattle.std.proofs.Math.ListN.{get_elem?}
 use Rattle.text.specs.Lists.{total}
 use Rattle.text.specs.Answer.{ok}
 use Rattle.text.specs.All.{All, one_more}
@@ -28,6 +26,7 @@ use Rattle.encoder.specs.Canonical.{Names, names_of, holder_of, looked_up, plain
 use Rattle.encoder.proofs.Origins.{memory_rows, anchored_counted, Resolved, Anchored, by_offset, by_factor, Origin, ordinary, load, store, canonical_origin}
 use Rattle.encoder.proofs.AcceptedLaws.{Pairs, no_pair, one_pair, canonical_pairs, WellPlaced, well_placed, looked_up_lem}
 use Rattle.promises.specs.Terms.{operand_at, content_at}
+use Rattle.std.proofs.lemmas.Option.{none-some, same_Some}
 
 -- ---- counted and emitted lengths
 
@@ -136,17 +135,17 @@ name_found names k i b (store p a) s place x e t =
 
 -- the instruction at the index of a row, and how it was made
 pairs_at : (names : Names) (k : ℕ) (is : List OlaAsmInstruction) (bs : List BinaryInstruction) → Pairs names k is bs → (n : ℕ) (i : OlaAsmInstruction)
-    → get_elem? is n ≡ some i → (b : BinaryInstruction) × (get_elem? bs n ≡ some b) × (m : ℕ) × (canonical_of names m i ≡ ok b)
-pairs_at names k is bs no_pair n i g = absurd (none-ne-some i g)
-pairs_at names k is bs (one_pair {i = j} {b = c} e p) zero i g = (c, refl, k, sym (ap (canonical_of names k) (some-injective j i g)) ∙ e)
+    → slice_get is n ≡ Some i → (b : BinaryInstruction) × (slice_get bs n ≡ Some b) × (m : ℕ) × (canonical_of names m i ≡ ok b)
+pairs_at names k is bs no_pair n i g = absurd (none-some i g)
+pairs_at names k is bs (one_pair {i = j} {b = c} e p) zero i g = (c, refl, k, sym (ap (canonical_of names k) (same_Some j i g)) ∙ e)
 pairs_at names k is bs (one_pair {is = js} {bs = cs} e p) (suc n) i g = pairs_at names (suc k) js cs p n i g
 
 -- the row of a kind that holds a name, and a content that is the count of words before what it marks
 abbrev pub HoldsCount : Names → List BinaryInstruction → ℕ → ℕ → ℕ → OlaOperand → Type 0
 HoldsCount names program kind start n content =
-    (l : LabelRow) × (holder_of names kind start n ≡ some l) × (content ≡ a_number (words_before program l.marks))
+    (l : LabelRow) × (holder_of names kind start n ≡ Some l) × (content ≡ a_number (words_before program l.marks))
 
-module _ (s : List ℕ) (rows : List AsmRow) (is : List BinaryInstruction) (canonical : canonical_program s rows ≡ ok is) (placed : first_misplaced 0 is ≡ none)
+module _ (s : List ℕ) (rows : List AsmRow) (is : List BinaryInstruction) (canonical : canonical_program s rows ≡ ok is) (placed : first_misplaced 0 is ≡ None)
     (shaped : All MemoryShaped (instructions rows)) where
   -- every row counts as many words as its instruction has
   pub lengths_agree : map counted_length (instructions rows) ≡ map emitted_length is
@@ -164,8 +163,8 @@ module _ (s : List ℕ) (rows : List AsmRow) (is : List BinaryInstruction) (cano
       (x.0, x.1, sym x.2 ∙ ap a_number (addresses_are_words x.0.marks))
 
   -- every row has an instruction, where a name in an operand is the count of words before what its call row marks, a label that of its `.LBL` row
-  pub names_are_word_counts : (k : ℕ) (i : OlaAsmInstruction) → get_elem? (instructions rows) k ≡ some i
-      → (b : BinaryInstruction) × (get_elem? is k ≡ some b) × ((place : Place) (start n : ℕ)
+  pub names_are_word_counts : (k : ℕ) (i : OlaAsmInstruction) → slice_get (instructions rows) k ≡ Some i
+      → (b : BinaryInstruction) × (slice_get is k ≡ Some b) × ((place : Place) (start n : ℕ)
       → (operand_at place i ≡ Identifier start n → HoldsCount (names_of s rows) is call_kind start n (content_at place b))
       × (operand_at place i ≡ Label start n → HoldsCount (names_of s rows) is jmp_kind start n (content_at place b)))
   names_are_word_counts k i g = (b, at.1, counts)
@@ -173,7 +172,7 @@ module _ (s : List ℕ) (rows : List AsmRow) (is : List BinaryInstruction) (cano
       names : Names
       names = names_of s rows
 
-      at : (b : BinaryInstruction) × (get_elem? is k ≡ some b) × (m : ℕ) × (canonical_of names m i ≡ ok b)
+      at : (b : BinaryInstruction) × (slice_get is k ≡ Some b) × (m : ℕ) × (canonical_of names m i ≡ ok b)
       at = pairs_at names 0 (instructions rows) is (canonical_pairs names 0 (instructions rows) is canonical) k i g
 
       b : BinaryInstruction

@@ -1,10 +1,8 @@
 -- The rows of an accepted source, the positions of its instructions, and the names and the label table, whose addresses are such positions.
-use Rattle.std.specs.Prelude.{ℕ, zero, suc, ◌+◌, ◌<◌, ◌≡◌, true, cond, eqb, length, take}
+use Rattle.std.specs.Prelude.{ℕ, zero, suc, ◌+◌, ◌<◌, ◌≡◌, true, cond, eqb, length, take, Some, slice_get}
 use Rattle.std.proofs.Common.{sym, ap, ◌∙◌, arith}
 use Rattle.std.proofs.Math.Path.{subst}
 use mathlib.Core.List.{List, map}
-use Rattle.std.proofs.Math.Option.{some}
-use Rattle.std.proofs.Math.ListN.{get_elem?}
 use Rattle.std.proofs.lemmas.List.{length-map}
 use Rattle.text.specs.Answer.{ok}
 use Rattle.text.proofs.AnswerLaws.{ok_same, ok_bind}
@@ -55,7 +53,7 @@ module _ (s prophets : List ℕ) (room : Room) (a : Accepted) (h : assembled s p
       let j = at_below a.program n l in (
         j.0,
         j.1,
-        ap (λ (ws : List ℕ). get_elem? ws (words_before a.program n)) (accepted_words s prophets room a h)
+        ap (λ (ws : List ℕ). slice_get ws (words_before a.program n)) (accepted_words s prophets room a h)
             ∙ first_there a.program (accepted_form s prophets room a h) n j.0 j.1,
       )
 
@@ -79,8 +77,8 @@ module _ (s prophets : List ℕ) (room : Room) (a : Accepted) (h : assembled s p
         let l = holder_marks s kind (name_at s start n) (0 + length (instructions rows)) (label_rows 0 rows) (rows_mark 0 rows) x.0 x.1 in
         (x.0, x.1, x.2, stands x.0.marks (within x.0.marks l))
 
-    pub names_counted : (k : ℕ) (i : OlaAsmInstruction) → get_elem? (instructions rows) k ≡ some i
-        → (b : BinaryInstruction) × (get_elem? a.program k ≡ some b) × ((place : Place) (start n : ℕ)
+    pub names_counted : (k : ℕ) (i : OlaAsmInstruction) → slice_get (instructions rows) k ≡ Some i
+        → (b : BinaryInstruction) × (slice_get a.program k ≡ Some b) × ((place : Place) (start n : ℕ)
         → (operand_at place i ≡ Identifier start n → HoldsPosition (names_of s rows) a call_kind start n (content_at place b))
         × (operand_at place i ≡ Label start n → HoldsPosition (names_of s rows) a jmp_kind start n (content_at place b)))
     names_counted k i g =
@@ -127,14 +125,14 @@ module _ (s prophets : List ℕ) (room : Room) (a : Accepted) (h : assembled s p
     host_position zero address l f = f
     host_position (suc n) address l f = (f ∙ address_words n, stands n (omega arith))
 
-    pub table_positions : (k : ℕ) (t : LabelEntry) → get_elem? (table_of rows) k ≡ some t → t.mapped ≡ true
-        → (l : LabelRow) × (get_elem? (label_rows 0 rows) k ≡ some l)
+    pub table_positions : (k : ℕ) (t : LabelEntry) → slice_get (table_of rows) k ≡ Some t → t.mapped ≡ true
+        → (l : LabelRow) × (slice_get (label_rows 0 rows) k ≡ Some l)
         × (t.kind ≡ call_kind → IsPosition a l.marks t.address.0)
         × (t.kind ≡ jmp_kind → IsPosition a l.marks t.address.0)
         × (t.kind ≡ prophet_kind → IsPositionBefore a l.marks t.address.0)
     table_positions k t g m = (l, x.1, λ f. (is_at call_kind f ∙ address_words l.marks, stands l.marks n), λ f. (is_at jmp_kind f ∙ address_words l.marks, stands l.marks n), λ f. host_position l.marks t.address.0 n (is_at prophet_kind f))
       where
-        x : (l : LabelRow) × (get_elem? (label_rows 0 rows) k ≡ some l) × (entry_of (instructions rows) l ≡ t)
+        x : (l : LabelRow) × (slice_get (label_rows 0 rows) k ≡ Some l) × (entry_of (instructions rows) l ≡ t)
         x = at_map (entry_of (instructions rows)) (label_rows 0 rows) k t g
 
         l : LabelRow

@@ -5,10 +5,8 @@
 -- definitions for their answers and for what they leave.
 -- A source is accepted where assembling it, with some prophets and some room, answers ok a: a.program is then its canonical program, made
 -- from its rows, a.words its words, and bytecode_of a.words its bytecode.
-use Rattle.std.specs.Prelude.{ℕ, suc, ◌+◌, ◌-◌, ◌*◌, ◌≤◌, ◌<◌, ◌↔◌, ◌⊎◌, ◌≡◌, refl, List, [], ◌++◌, map, true, false, length, take, drop, get_or, replicate}
+use Rattle.std.specs.Prelude.{ℕ, suc, ◌+◌, ◌-◌, ◌*◌, ◌≤◌, ◌<◌, ◌↔◌, ◌⊎◌, ◌≡◌, refl, List, [], ◌++◌, map, true, false, length, take, drop, get_or, replicate, Some, None, slice_get}
 use Rattle.std.proofs.Common.{sym, ap, ◌∙◌}
-use Rattle.std.proofs.Math.Option.{none, some}
-use Rattle.std.proofs.Math.ListN.{get_elem?}
 use Rattle.std.proofs.lemmas.List.{length-map}
 use Rattle.text.specs.Lines.{lines}
 use Rattle.text.specs.Lists.{total}
@@ -225,8 +223,8 @@ module _ (s prophets : List ℕ) (room : Room) (a : Accepted) (h : assembled s p
   -- label likewise.
   -- Of the same functions.
   -- A jump or a call goes where its name stands, in every accepted source.
-  pub names_are_word_counts : (rows : List AsmRow) → sorted_of s ≡ ok rows → (k : ℕ) (i : OlaAsmInstruction) → get_elem? (instructions rows) k ≡ some i
-      → (b : BinaryInstruction) × (get_elem? a.program k ≡ some b) × ((place : Place) (start n : ℕ)
+  pub names_are_word_counts : (rows : List AsmRow) → sorted_of s ≡ ok rows → (k : ℕ) (i : OlaAsmInstruction) → slice_get (instructions rows) k ≡ Some i
+      → (b : BinaryInstruction) × (slice_get a.program k ≡ Some b) × ((place : Place) (start n : ℕ)
       → (operand_at place i ≡ Identifier start n → HoldsPosition (names_of s rows) a call_kind start n (content_at place b))
       × (operand_at place i ≡ Label start n → HoldsPosition (names_of s rows) a jmp_kind start n (content_at place b)))
   names_are_word_counts = names_counted s prophets room a h
@@ -235,8 +233,8 @@ module _ (s prophets : List ℕ) (room : Room) (a : Accepted) (h : assembled s p
   -- of the instruction before its row, 0 where there is none.
   -- Of encoder_assemble::assemble_parts and encoder_entries::assemble, ola_assemble_parts and ola_assemble, which fill this table.
   -- Who looks a name up in the table finds the place of its instruction among the words.
-  pub table_is_positions : (rows : List AsmRow) → sorted_of s ≡ ok rows → (k : ℕ) (t : LabelEntry) → get_elem? (table_of rows) k ≡ some t → t.mapped ≡ true
-      → (l : LabelRow) × (get_elem? (label_rows 0 rows) k ≡ some l)
+  pub table_is_positions : (rows : List AsmRow) → sorted_of s ≡ ok rows → (k : ℕ) (t : LabelEntry) → slice_get (table_of rows) k ≡ Some t → t.mapped ≡ true
+      → (l : LabelRow) × (slice_get (label_rows 0 rows) k ≡ Some l)
       × (t.kind ≡ call_kind → IsPosition a l.marks t.address.0)
       × (t.kind ≡ jmp_kind → IsPosition a l.marks t.address.0)
       × (t.kind ≡ prophet_kind → IsPositionBefore a l.marks t.address.0)
@@ -246,7 +244,7 @@ module _ (s prophets : List ℕ) (room : Room) (a : Accepted) (h : assembled s p
   -- Of the count kept that the same functions answer, and the hosts that they leave, in list order.
   -- A caller finds the prophets kept in the hosts left: of equal hosts the last.
   pub later_kept : (k host : ℕ)
-      → IsKept a.hosts k host ↔ ((get_elem? a.hosts k ≡ some host) × ((j : ℕ) → k < j → get_elem? a.hosts j ≡ some host → ⊥))
+      → IsKept a.hosts k host ↔ ((slice_get a.hosts k ≡ Some host) × ((j : ℕ) → k < j → slice_get a.hosts j ≡ Some host → ⊥))
   later_kept = last-is-kept a.hosts
 
   -- The count answered is how many are kept, in the order of the list and each once.
@@ -272,23 +270,23 @@ module _ (text : List ℕ) (is : List BinaryInstruction) (h : opened text ≡ ok
   -- Writing it is refused with 26 and k exactly where k is the index of the first instruction off its row, whatever is lent.
   -- Of source_write::write_source and ola_write_source, given that text; of source_rows::is_off_row, which says of an instruction whether it is.
   -- Who is told 26 knows that no longer text helps, and which instruction to look at.
-  pub source_refused : (room k : ℕ) → (source_written text room ≡ refused 26 k) ↔ (first_off_row 0 is ≡ some k)
+  pub source_refused : (room k : ℕ) → (source_written text room ≡ refused 26 k) ↔ (first_off_row 0 is ≡ Some k)
   source_refused = refused-off text is h
 
   -- That index is the one whose instruction is off its row, has contents in a place that its operation's row does not have, while none before it is; and
   -- there is no such index exactly where no instruction is.
   -- Of the same functions.
   -- With the last theorem: 26 comes for such an instruction, always and for nothing else.
-  pub first_off_row_lem : ((k : ℕ) → (first_off_row 0 is ≡ some k)
-      ↔ ((i : BinaryInstruction) × (get_elem? is k ≡ some i) × (is_off_row i ≡ true)
-      × ((j : ℕ) → j < k → (b : BinaryInstruction) → get_elem? is j ≡ some b → is_off_row b ≡ false)))
-      × ((first_off_row 0 is ≡ none) ↔ All (λ i. is_off_row i ≡ false) is)
+  pub first_off_row_lem : ((k : ℕ) → (first_off_row 0 is ≡ Some k)
+      ↔ ((i : BinaryInstruction) × (slice_get is k ≡ Some i) × (is_off_row i ≡ true)
+      × ((j : ℕ) → j < k → (b : BinaryInstruction) → slice_get is j ≡ Some b → is_off_row b ≡ false)))
+      × ((first_off_row 0 is ≡ None) ↔ All (λ i. is_off_row i ≡ false) is)
   first_off_row_lem = (first_off is, none-off is)
 
   -- Where there is none and the text lent is long enough, `main:` and a row for each instruction are written.
   -- Of source_write::write_source and ola_write_source, given that text; of source_rows::put_source_row, which writes one of these rows.
   -- Besides 26 only too short a text keeps a bytecode that opens from having its source.
-  pub source_written_lem : (room : ℕ) → first_off_row 0 is ≡ none → length (source_text is) ≤ room → source_written text room ≡ ok (source_text is)
+  pub source_written_lem : (room : ℕ) → first_off_row 0 is ≡ None → length (source_text is) ≤ room → source_written text room ≡ ok (source_text is)
   source_written_lem = written-on-rows text is h
 
   -- 5 bytes and 21 for each line of the bytecode are long enough, and 2,970,976 for any bytecode.

@@ -1,8 +1,7 @@
 -- Point 1: the figures of an accepted source are those of its build, its counted length is its words, and lending just so much is enough.
-use Rattle.std.specs.Prelude.{ℕ, suc, ◌≤◌, ◌⊎◌, List, [], ◌∷◌, map, Bool, false, ◌||◌, ltb, length}
+use Rattle.std.specs.Prelude.{ℕ, suc, ◌≤◌, ◌⊎◌, List, [], ◌∷◌, map, Bool, false, ◌||◌, ltb, length, Option, Some, None}
 use Rattle.std.proofs.Common.{inl, ap, ◌∙◌, arith, take_all}
 use Rattle.std.proofs.Math.Path.{◌≡◌, refl, sym, subst}
-use Rattle.std.proofs.Math.Option.{Option, none, some}
 use borrow.Author.Tests.{le-ltb}
 use Rattle.std.proofs.lemmas.List.{length-map}
 use Rattle.text.specs.Lists.{total}
@@ -81,8 +80,8 @@ words_enough s rows prophets room k = go (hosts_of s rows prophets) (canonical_p
 
     last : (hs : List ℕ) (bs : List BinaryInstruction) → canonical_program s rows ≡ ok bs → (o : Option ℕ) → first_misplaced 0 bs ≡ o
         → (refuse_at o 12 >> ends hs bs (ltb room.words (length (program_words bs)))) ≡ (refuse_at o 12 >> ends hs bs false)
-    last hs bs f (some d) g = refl
-    last hs bs f none g = let w = program_words_lem s rows bs f g in rw (le-ltb room.words (length (program_words bs)) (omega arith))
+    last hs bs f (Some d) g = refl
+    last hs bs f None g = let w = program_words_lem s rows bs f g in rw (le-ltb room.words (length (program_words bs)) (omega arith))
 
     go : (x : Answer (List ℕ)) (y : Answer (List BinaryInstruction)) → canonical_program s rows ≡ y
         → (x >>= λ hs. y >>= λ bs. (refuse_at (first_misplaced 0 bs) 12 >> ends hs bs (ltb room.words (length (program_words bs)))))

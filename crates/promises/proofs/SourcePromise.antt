@@ -1,7 +1,6 @@
 -- The source of a bytecode: it assembles back to the program read from it, that of an accepted source to its words, and what a caller holds of it.
-use Rattle.std.specs.Prelude.{ℕ, ◌≤◌, ◌≡◌, refl, List, [], map, false, length, take, drop}
+use Rattle.std.specs.Prelude.{ℕ, ◌≤◌, ◌≡◌, refl, List, [], map, false, length, take, drop, None}
 use Rattle.std.proofs.Common.{sym, ap, subst, ◌∙◌, arith}
-use Rattle.std.proofs.Math.Option.{none}
 use Rattle.std.proofs.Math.Seq.{drop-append_seam}
 use Rattle.text.specs.Scan.{parts}
 use Rattle.text.specs.Answer.{ok, refused, ◌>>◌, refuse_if, on_ok}
@@ -53,7 +52,7 @@ pub written_assembles : (text : List ℕ) (is : List BinaryInstruction) → open
 written_assembles text is h space t e short prophets listed room entries words =
     let w = written_source text space t e in
     let same : w.0 ≡ is = ok_same (sym w.1 ∙ h) in
-    let on : All (λ i. is_off_row i ≡ false) is = (none_off_row is).0 (subst (λ (js : List BinaryInstruction). first_off_row 0 js ≡ none) same w.2) in
+    let on : All (λ i. is_off_row i ≡ false) is = (none_off_row is).0 (subst (λ (js : List BinaryInstruction). first_off_row 0 js ≡ None) same w.2) in
     let f = opened_form text is h in
     let rows = all_reads_as (map as_canonical is) f.0 (all_order_as_canonical is f.1) (all_on_as_canonical is on) in
     let z : t ≡ source_text (map as_canonical is) = w.3 ∙ ap (λ (js : List BinaryInstruction). source_text js) same ∙ sym (text_as_canonical is) in

@@ -1,7 +1,6 @@
 -- What the steps of a build after the label table refuse: 8 to 12 and 25, and 13 where something that is lent is short.
-use Rattle.std.specs.Prelude.{ℕ, suc, ◌≤◌, ◌⊎◌, ◌≡◌, refl, List, [], ◌∷◌, Bool, true, false, cond}
+use Rattle.std.specs.Prelude.{ℕ, suc, ◌≤◌, ◌⊎◌, ◌≡◌, refl, List, [], ◌∷◌, Bool, true, false, cond, Option, Some, None}
 use Rattle.std.proofs.Common.{inl, inr, sym, subst, arith}
-use Rattle.std.proofs.Math.Option.{Option, none, some}
 use Rattle.text.specs.Bytes.{bytes, same}
 use Rattle.text.specs.Answer.{Answer, ok, refused, ◌>>=◌, ◌>>◌, refuse_if, refuse_at}
 use Rattle.text.proofs.AnswerLaws.{not_ok}
@@ -45,8 +44,8 @@ if_late false n x k h = h
 
 pub at_late : {A : Type 0} (o : Option ℕ) (n : ℕ) (x : Answer A) → IsLate n → Late x → Late (refuse_at o n >> x)
 unfolding ◌>>◌ refuse_at
-at_late (some d) n x k h = no_late n d k
-at_late none n x k h = h
+at_late (Some d) n x k h = no_late n d k
+at_late None n x k h = h
 
 -- 8
 pub head_late : (ls : List (List ℕ)) → Late (labels_after_head ls)
@@ -60,8 +59,8 @@ head_late (l ∷ ls) = go (same l (bytes "label"))
 
 -- 9
 host_late : (is : List OlaAsmInstruction) (k : ℕ) (o : Option LabelRow) → Late (host_found is k o)
-host_late is k none = no_late 9 k (inl (omega arith, omega arith))
-host_late is k (some l) = ok_late _
+host_late is k None = no_late 9 k (inl (omega arith, omega arith))
+host_late is k (Some l) = ok_late _
 
 pub hosts_late : (s : List ℕ) (rows : List AsmRow) (k : ℕ) (labels : List (List ℕ)) → Late (hosts_from s rows k labels)
 unfolding hosts_from
@@ -72,8 +71,8 @@ hosts_late s rows k (x ∷ xs) =
 
 -- 10 and 25
 found_late : (names : Names) (k : ℕ) (o : Option LabelRow) → Late (looked_up names k o)
-found_late names k none = no_late 10 k (inl (omega arith, omega arith))
-found_late names k (some l) = ok_late _
+found_late names k None = no_late 10 k (inl (omega arith, omega arith))
+found_late names k (Some l) = ok_late _
 
 plain_late : (names : Names) (k : ℕ) (x : OlaAsmOperand) → Late (plain names k x)
 plain_late names k Empty = ok_late _
@@ -88,7 +87,7 @@ plain_late names k (Identifier start n) = found_late names k (holder_of names ca
 general_late : (names : Names) (k : ℕ) (i : OlaAsmInstruction) → Late (general names k i)
 unfolding general
 general_late names k i =
-    at_late (cond (has_bracket i) (some k) none) 25 _ (inr refl)
+    at_late (cond (has_bracket i) (Some k) None) 25 _ (inr refl)
     (bind_late _ _ (plain_late names k i.op0) λ a. bind_late _ _ (plain_late names k i.op1) λ b. bind_late _ _ (plain_late names k i.dst) λ c. ok_late _)
 
 -- 11

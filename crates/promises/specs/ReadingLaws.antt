@@ -1,7 +1,6 @@
 -- An instruction of canonical form whose numbers are below p is read back from its own words.
-use Rattle.std.specs.Prelude.{ℕ, ◌≡◌, refl, List, [], ◌∷◌}
+use Rattle.std.specs.Prelude.{ℕ, ◌≡◌, refl, List, [], ◌∷◌, Option, Some, None}
 use Rattle.std.proofs.Common.{sym}
-use Rattle.std.proofs.Math.Option.{Option, none, some}
 use Rattle.text.specs.Answer.{ok}
 use Rattle.text.specs.All.{All, none_left, one_more}
 use Rattle.text_write.specs.Digits.{fewest_text}
@@ -18,8 +17,8 @@ use Rattle.decoder.proofs.GroupLaws.{Readable, line_of}
 
 module _ (i : BinaryInstruction) (c : CanonicalForm i) (k : ℕ) where
   read_back : (v : Option ℕ) → second_word i ≡ v → BelowOrder v → decoded k (first_word i) (line_of v) ≡ ok (as_read i)
-  read_back none e b = decodes_alone k none i c e refl
-  read_back (some v) e (below h) = decodes_with k (some (fewest_text v)) i c v e (fewest_text v) refl (second_read v h)
+  read_back None e b = decodes_alone k None i c e refl
+  read_back (Some v) e (below h) = decodes_with k (Some (fewest_text v)) i c v e (fewest_text v) refl (second_read v h)
 
 pub readable : (i : BinaryInstruction) → CanonicalForm i → InOrder i → Readable i
 readable i c o = record {

@@ -1,5 +1,5 @@
 -- Document 01's cases, starred and of "Rows and their words" and "Numbers", as one table against the definitions.
-use Rattle.std.specs.Prelude.{ℕ, ◌-◌, ◌≡◌, refl, List, [], ◌∷◌, ◌++◌, map, length, take, replicate}
+use Rattle.std.specs.Prelude.{ℕ, ◌-◌, ◌≡◌, refl, List, [], ◌∷◌, ◌++◌, map, length, take, replicate, Option, Some, None}
 use Rattle.text.specs.Bytes.{bytes, is_space, is_digit, is_letter, is_word, same}
 use Rattle.text.specs.Lists.{total}
 use Rattle.text.specs.Scan.{scan, all, parts}
@@ -12,8 +12,6 @@ use Rattle.vm_opcodes.specs.declared.OlaOpcode.TheVariants.{CALL, RET}
 use Rattle.vm_hardware.specs.Registers.{registers, first_register, register_of, special_of}
 use Rattle.vm_hardware.specs.declared.OlaRegister.TheVariants.{R1}
 use Rattle.vm_operands.specs.Numbers.{immediate, signed, number_of}
-use Rattle.vm_operands.specs.declared.ImmediateFound.{ImmediateFound}
-use Rattle.vm_operands.specs.declared.ImmediateFound.TheVariants.{Is, Nothing}
 use Rattle.vm_operands.specs.declared.OlaOperand.TheVariants.{Empty, RegisterOperand}
 use Rattle.asm.specs.Parts.{placed, filled_parts, pieces_from, line_pieces, row_pieces, name_at}
 use Rattle.asm.specs.Operands.{is_source_number, source_number, shapes, first_match}
@@ -34,6 +32,7 @@ use Rattle.decoder.specs.Lines.{complete_of, first_unreadable}
 use Rattle.decoder.specs.Decode.{memory_built, built_with, on_number, on_operation, on_first}
 use Rattle.decoder.specs.Open.{all_decoded, opened, run}
 use Rattle.decoder.proofs.OpenedLaws.{opened_run}
+use Rattle.vm_operands.specs.declared.ImmediateValue.{ImmediateValue}
 
 -- buffers long enough
 abbrev pub plenty : Room
@@ -42,7 +41,7 @@ plenty = record { entries = 1000; words = 1000; hosts = 1000 }
 -- a case of document 01
 pub data Case : Type 0 where
   -- a text and the number that it is
-  number : List ℕ → ImmediateFound → Case
+  number : List ℕ → Option ImmediateValue → Case
   -- a source and its words
   words : List ℕ → List ℕ → Case
   -- a source, a prophet list, and each prophet's host
@@ -82,9 +81,9 @@ printing_source = bytes "f:\nret\nmain:\nmov r1 -1\ncall f\n.PROPHET0_0:\nend"
 -- the starred cases, then the others of "Numbers" and "Rows and their words"
 abbrev pub cases : List Case
 cases =
-    number (bytes "18446744069414584320") (Is (immediate 18446744069414584320))
-    ∷ number (bytes "18446744069414584321") Nothing
-    ∷ number (bytes "-18446744069414584320") (Is (immediate 1))
+    number (bytes "18446744069414584320") (Some (immediate 18446744069414584320))
+    ∷ number (bytes "18446744069414584321") None
+    ∷ number (bytes "-18446744069414584320") (Some (immediate 1))
     ∷ prints printing_source (bytes "address word\n0 0x4000000208000000\n1 0xffffffff00000000\n2 0x4000000001000000\n3 0x5\n4 0x0000000000100000\n5 0x0000000000800000\n")
     ∷ hosts printing_source (bytes "label\n.PROPHET0_0") (2 ∷ [])
     ∷ words (bytes "main:\nmov r1 pc") (0x0000000208000000 ∷ [])
@@ -98,8 +97,8 @@ cases =
     ∷ reads (bytes "0x0000000600800000") (made RET Empty Empty (RegisterOperand R1) ∷ [])
     ∷ words (bytes "main:") []
     -- not starred
-    ∷ number (bytes "-0") (Is (immediate 0))
-    ∷ number (bytes "-170141183460469231731687303715884105728") Nothing
+    ∷ number (bytes "-0") (Some (immediate 0))
+    ∷ number (bytes "-170141183460469231731687303715884105728") None
     ∷ refusal [] 4 0
     ∷ refusal (bytes "main:\nadd r1 5 r2\ncall g") 10 1
     ∷ refusal (bytes "main:\n\n ; nothing\nend\nload r1") 3 2

@@ -1,8 +1,6 @@
 -- The words of the promises: the same program, the position of an instruction, which prophets are kept, and rows by lines.
-use Rattle.std.specs.Prelude.{ℕ, zero, suc, ◌%◌, ◌≡◌, ltb, length}
+use Rattle.std.specs.Prelude.{ℕ, zero, suc, ◌%◌, ◌≡◌, ltb, length, Some, slice_get}
 use mathlib.Core.List.{List, map, Memᴰ}
-use Rattle.std.proofs.Math.Option.{some}
-use Rattle.std.proofs.Math.ListN.{get_elem?}
 use Rattle.text.specs.Answer.{Answer, ◌>>◌, refuse_if, refuse_at}
 use Rattle.vm_hardware.specs.declared.Place.{Place}
 use Rattle.vm_hardware.specs.declared.Place.TheVariants.{Op0, Op1, Dst}
@@ -61,7 +59,7 @@ content_at Dst i = i.dst
 
 -- instruction n of an accepted source is there, and its first word stands where the words before it end
 abbrev pub Stands : Accepted → ℕ → Type 0
-Stands a n = (j : BinaryInstruction) × (get_elem? a.program n ≡ some j) × (get_elem? a.words (words_before a.program n) ≡ some (first_word j))
+Stands a n = (j : BinaryInstruction) × (slice_get a.program n ≡ Some j) × (slice_get a.words (words_before a.program n) ≡ Some (first_word j))
 
 -- an address that is the position of instruction n
 abbrev pub IsPosition : Accepted → ℕ → ℕ → Type 0
@@ -76,7 +74,7 @@ IsPositionBefore a (suc n) address = IsPosition a n address
 -- source, a content that is that count, and the instruction there
 abbrev pub HoldsPosition : Names → Accepted → ℕ → ℕ → ℕ → OlaOperand → Type 0
 HoldsPosition names a kind start n content =
-    (l : LabelRow) × (holder_of names kind start n ≡ some l) × (content ≡ a_number (words_before a.program l.marks)) × Stands a l.marks
+    (l : LabelRow) × (holder_of names kind start n ≡ Some l) × (content ≡ a_number (words_before a.program l.marks)) × Stands a l.marks
 
 -- ---- prophets
 

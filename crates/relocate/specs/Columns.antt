@@ -1,5 +1,5 @@
 -- The label table as it is left, as entries and as parallel columns, and the row that holds a name in it.
-use Rattle.std.specs.Prelude.{ℕ, suc, List, [], ◌∷◌, map, Bool, ◌&&◌, cond, eqb, ltb, length}
+use Rattle.std.specs.Prelude.{ℕ, suc, List, [], ◌∷◌, map, Bool, ◌&&◌, cond, eqb, ltb, length, Option, Some, None, Result, Ok, Err}
 use Rattle.text.specs.Bytes.{same}
 use Rattle.text.specs.Answer.{Answer, ok, refused, ◌>>=◌, over, on_ok}
 use Rattle.asm.specs.Parts.{name_at}
@@ -8,10 +8,8 @@ use Rattle.relocate.specs.Labels.{prophet_kind, table_of}
 use Rattle.relocate.specs.Prophets.{listed_labels}
 use Rattle.relocate.specs.Relocate.{relocate_number, relocate_detail, tabled}
 use Rattle.relocate.specs.declared.LabelEntry.{LabelEntry}
-use Rattle.relocate.specs.declared.AddressFound.{AddressFound}
-use Rattle.relocate.specs.declared.AddressFound.TheVariants.{At, Nothing}
-use Rattle.relocate.specs.declared.ProphetsListed.{ProphetsListed}
-use Rattle.relocate.specs.declared.ProphetsListed.TheVariants.{Is, Refused}
+use Rattle.relocate.specs.declared.RelocateRefusal.{RelocateRefusal}
+use Rattle.relocate.specs.declared.WordAddress.{WordAddress}
 
 -- "Refusals up to 7 in this order leave the table untouched, those after 7 leave it filled"; "entries past these are untouched"
 abbrev pub table_left : List ℕ → List LabelEntry → List LabelEntry
@@ -51,18 +49,18 @@ entries_of (k ∷ ks) (m ∷ ms) (s ∷ ss) (l ∷ ls) (a ∷ as') =
 abbrev pub entry_names : List ℕ → ℕ → List ℕ → LabelEntry → Bool
 entry_names s kind x e = e.mapped && eqb e.kind kind && same (name_at s e.start e.length) x
 
-abbrev pub later_address : AddressFound → AddressFound → AddressFound
-later_address (At a) other = At a
-later_address Nothing other = other
+abbrev pub later_address : Option WordAddress → Option WordAddress → Option WordAddress
+later_address (Some a) other = Some a
+later_address None other = other
 
 -- "Of equal names of one kind the last mapped row in sorted order holds"
-unfoldable pub held_address : List ℕ → ℕ → List ℕ → List LabelEntry → AddressFound
-held_address s kind x [] = Nothing
-held_address s kind x (e ∷ es) = later_address (held_address s kind x es) (cond (entry_names s kind x e) (At e.address) Nothing)
+unfoldable pub held_address : List ℕ → ℕ → List ℕ → List LabelEntry → Option WordAddress
+held_address s kind x [] = None
+held_address s kind x (e ∷ es) = later_address (held_address s kind x es) (cond (entry_names s kind x e) (Some e.address) None)
 
 -- how a name of a kind is looked up
 abbrev pub LookUp : Type 0
-LookUp = ℕ → List ℕ → AddressFound
+LookUp = ℕ → List ℕ → Option WordAddress
 
 -- in the entries of a table
 abbrev pub looked_in : List ℕ → List LabelEntry → LookUp
@@ -71,9 +69,9 @@ looked_in s es kind x = held_address s kind x es
 -- ---- prophets, each looked up
 
 -- 9 "a prophet that no mapped prophet row names (its index from 0)"
-abbrev pub held_host : ℕ → AddressFound → Answer ℕ
-held_host k (At a) = ok a.0
-held_host k Nothing = refused 9 k
+abbrev pub held_host : ℕ → Option WordAddress → Answer ℕ
+held_host k (Some a) = ok a.0
+held_host k None = refused 9 k
 
 -- each prophet's host, in list order, counted from k
 unfoldable pub held_hosts_from : LookUp → ℕ → List (List ℕ) → Answer (List ℕ)
@@ -88,9 +86,9 @@ held_hosts look list = listed_labels list >>= λ labels. held_hosts_from look 0 
 abbrev pub host_count : Answer (List ℕ) → Answer ℕ
 host_count answer = answer >>= λ hs. ok (length hs)
 
-abbrev pub listed_numbered : ProphetsListed → Answer ℕ
-listed_numbered (Is n) = ok n
-listed_numbered (Refused f) = refused (relocate_number f) (relocate_detail f)
+abbrev pub listed_numbered : Result ℕ RelocateRefusal → Answer ℕ
+listed_numbered (Ok n) = ok n
+listed_numbered (Err f) = refused (relocate_number f) (relocate_detail f)
 
 -- the hosts written from the start on, where there is room for them
 abbrev pub hosts_put : Answer (List ℕ) → List ℕ → List ℕ

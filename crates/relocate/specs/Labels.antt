@@ -1,6 +1,5 @@
 -- "Label table": the instruction that each label row marks, addresses, and the row that holds a name.
-use Rattle.std.specs.Prelude.{ℕ, zero, suc, List, [], ◌∷◌, map, Bool, not, ◌&&◌, cond, eqb, take}
-use Rattle.std.proofs.Math.Option.{Option, none, some}
+use Rattle.std.specs.Prelude.{ℕ, zero, suc, List, [], ◌∷◌, map, Bool, not, ◌&&◌, cond, eqb, take, Option, Some, None}
 use Rattle.text.specs.Bytes.{same}
 use Rattle.text.specs.Lists.{total}
 use Rattle.text.specs.Scan.{is_empty}
@@ -70,10 +69,10 @@ abbrev pub names : List ℕ → ℕ → List ℕ → LabelRow → Bool
 names s kind x l = l.mapped && eqb l.kind kind && same (name_at s l.start l.length) x
 
 abbrev pub later_or : Option LabelRow → Option LabelRow → Option LabelRow
-later_or (some l) other = some l
-later_or none other = other
+later_or (Some l) other = Some l
+later_or None other = other
 
 -- "Of equal names of one kind the last mapped row in sorted order holds"
 unfoldable pub holder : List ℕ → ℕ → List ℕ → List LabelRow → Option LabelRow
-holder s kind x [] = none
-holder s kind x (l ∷ ls) = later_or (holder s kind x ls) (cond (names s kind x l) (some l) none)
+holder s kind x [] = None
+holder s kind x (l ∷ ls) = later_or (holder s kind x ls) (cond (names s kind x l) (Some l) None)

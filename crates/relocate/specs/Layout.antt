@@ -1,25 +1,20 @@
 -- Refusals 1 to 7 by one survey, and the sorted rows line by line: main's stretch of the source, what stands before it, what stands after it.
-use Rattle.std.specs.Prelude.{ℕ, ◌+◌, ◌-◌, List, [], ◌∷◌, ◌++◌, ◌&&◌, cond, eqb, leb, ltb, length, take}
+use Rattle.std.specs.Prelude.{ℕ, ◌+◌, ◌-◌, List, [], ◌∷◌, ◌++◌, ◌&&◌, cond, eqb, leb, ltb, length, take, Option, Some, None, Result, Ok, Err}
 use Rattle.text.specs.Answer.{Answer, ok, refused, ◌>>=◌, ◌>>◌, refuse_if, refuse_at}
 use Rattle.asm.specs.Parts.{Part, pieces_after}
 use Rattle.asm.specs.Rows.{row_of, row_at, instructions}
 use Rattle.asm.specs.Survey.{survey_of}
 use Rattle.asm.specs.declared.OlaAsmInstruction.{OlaAsmInstruction}
 use Rattle.asm.specs.declared.AsmRow.{AsmRow}
-use Rattle.asm.specs.declared.RowRead.{RowRead}
-use Rattle.asm.specs.declared.RowRead.TheVariants.{Is as IsRow, Unreadable}
-use Rattle.asm.specs.declared.PlaceFound.{PlaceFound}
-use Rattle.asm.specs.declared.PlaceFound.TheVariants.{At, Nothing}
 use Rattle.asm.specs.declared.RowAt.{RowAt}
 use Rattle.asm.specs.declared.Tally.{Tally}
 use Rattle.relocate.specs.Relocate.{relocate_number, relocate_detail, first_above127}
 use Rattle.relocate.specs.declared.Layout.{Layout}
-use Rattle.relocate.specs.declared.Measured.{Measured}
-use Rattle.relocate.specs.declared.Measured.TheVariants.{Is, Refused}
+use Rattle.relocate.specs.declared.RelocateRefusal.{RelocateRefusal}
 
-abbrev pub place_or : ℕ → PlaceFound → ℕ
-place_or n (At i) = i
-place_or n Nothing = n
+abbrev pub place_or : ℕ → Option ℕ → ℕ
+place_or n (Some i) = i
+place_or n None = n
 
 -- main's scope runs to the text's end where no call label follows
 abbrev pub layout_of : List ℕ → Tally → Layout
@@ -51,9 +46,9 @@ measured s room = do
   ok l
 
 -- an answer by its number and detail, or its layout
-abbrev pub measured_numbered : Measured → Answer Layout
-measured_numbered (Is l) = ok l
-measured_numbered (Refused f) = refused (relocate_number f) (relocate_detail f)
+abbrev pub measured_numbered : Result Layout RelocateRefusal → Answer Layout
+measured_numbered (Ok l) = ok l
+measured_numbered (Err f) = refused (relocate_number f) (relocate_detail f)
 
 -- ---- the sorted rows, line by line
 
@@ -73,9 +68,9 @@ sorted_row_at s start end v =
 -- ---- all of them
 
 -- a row in front, where it was read as one
-abbrev pub on_read : RowRead → List AsmRow → List AsmRow
-on_read (IsRow r) rs = r ∷ rs
-on_read Unreadable rs = rs
+abbrev pub on_read : Option AsmRow → List AsmRow → List AsmRow
+on_read (Some r) rs = r ∷ rs
+on_read None rs = rs
 
 -- the rows that pieces are read as, the unreadable ones left out
 unfoldable pub readable : List (List Part) → List AsmRow

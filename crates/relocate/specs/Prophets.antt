@@ -1,6 +1,5 @@
 -- The prophet list: its lines, each prophet's host, and the prophets kept.
-use Rattle.std.specs.Prelude.{ℕ, suc, List, [], ◌∷◌, Bool, false, ◌||◌, cond, eqb, ltb, length}
-use Rattle.std.proofs.Math.Option.{Option, none, some}
+use Rattle.std.specs.Prelude.{ℕ, suc, List, [], ◌∷◌, Bool, false, ◌||◌, cond, eqb, ltb, length, Option, Some, None}
 use Rattle.text.specs.Bytes.{bytes, same}
 use Rattle.text.specs.Scan.{parts, is_empty}
 use Rattle.text.specs.Lines.{is_feed}
@@ -27,8 +26,8 @@ listed_labels list = refuse_if (ltb 16384 (length list)) 8 >> labels_after_head 
 
 -- 9 "a prophet that no mapped prophet row names (its index from 0)"
 abbrev pub host_found : List OlaAsmInstruction → ℕ → Option LabelRow → Answer ℕ
-host_found is k none = refused 9 k
-host_found is k (some l) = ok (host_of is l.marks)
+host_found is k None = refused 9 k
+host_found is k (Some l) = ok (host_of is l.marks)
 
 -- each prophet's host, in list order, counted from k
 unfoldable pub hosts_from : List ℕ → List AsmRow → ℕ → List (List ℕ) → Answer (List ℕ)

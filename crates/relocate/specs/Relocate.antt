@@ -1,6 +1,5 @@
 -- "When an operation declines", refusals 1 to 9 in their order, and the number and detail of each.
-use Rattle.std.specs.Prelude.{ℕ, suc, List, [], ◌∷◌, cond, eqb, ltb, length}
-use Rattle.std.proofs.Math.Option.{Option, none, some}
+use Rattle.std.specs.Prelude.{ℕ, suc, List, [], ◌∷◌, cond, eqb, ltb, length, Option, Some, None}
 use Rattle.text.specs.Scan.{is_empty}
 use Rattle.text.specs.Answer.{Answer, ok, ◌>>=◌, ◌>>◌, refuse_if, refuse_at}
 use Rattle.asm.specs.Parts.{source_pieces}
@@ -38,8 +37,8 @@ relocate_detail (ProphetUnknown index) = index
 
 -- 2: "a byte of the source above 127 (the offset of the first, from 0)"
 unfoldable pub first_above127 : ℕ → List ℕ → Option ℕ
-first_above127 k [] = none
-first_above127 k (b ∷ bs) = let later = first_above127 (suc k) bs in cond (ltb 127 b) (some k) later
+first_above127 k [] = None
+first_above127 k (b ∷ bs) = let later = first_above127 (suc k) bs in cond (ltb 127 b) (Some k) later
 
 -- refusals 1 to 3: the rows of a source, as written
 unfoldable pub rows_read : List ℕ → Answer (List AsmRow)

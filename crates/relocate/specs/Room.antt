@@ -1,5 +1,5 @@
 -- Document 02, Point 1: "the label rows, the instructions, the counted length and the words" of a source, before it is built.
-use Rattle.std.specs.Prelude.{ℕ, List, map, length}
+use Rattle.std.specs.Prelude.{ℕ, List, map, length, Result, Ok, Err}
 use Rattle.text.specs.Lists.{total}
 use Rattle.text.specs.Answer.{Answer, ok, refused, ◌>>=◌}
 use Rattle.asm.specs.Rows.{instructions, counted_length}
@@ -8,8 +8,7 @@ use Rattle.asm.specs.declared.AsmRow.{AsmRow}
 use Rattle.relocate.specs.Labels.{label_rows}
 use Rattle.relocate.specs.Relocate.{relocate_number, relocate_detail, sorted_of}
 use Rattle.relocate.specs.declared.RoomFigures.{RoomFigures}
-use Rattle.relocate.specs.declared.RoomFound.{RoomFound}
-use Rattle.relocate.specs.declared.RoomFound.TheVariants.{Is, Refused}
+use Rattle.relocate.specs.declared.RelocateRefusal.{RelocateRefusal}
 
 -- the figures of sorted rows
 abbrev pub figures_of : List AsmRow → RoomFigures
@@ -25,6 +24,6 @@ unfoldable pub room_of : List ℕ → Answer RoomFigures
 room_of s = sorted_of s >>= λ rows. ok (figures_of rows)
 
 -- an answer by its number and detail, or its figures
-abbrev pub room_numbered : RoomFound → Answer RoomFigures
-room_numbered (Is f) = ok f
-room_numbered (Refused f) = refused (relocate_number f) (relocate_detail f)
+abbrev pub room_numbered : Result RoomFigures RelocateRefusal → Answer RoomFigures
+room_numbered (Ok f) = ok f
+room_numbered (Err f) = refused (relocate_number f) (relocate_detail f)

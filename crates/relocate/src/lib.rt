@@ -11,6 +11,14 @@ use asm::RowCount;
 #[derive(Clone, Copy)]
 pub struct WordAddress(pub u64);
 
+// The kinds of label rows. The number of a kind is its place here, and stands in a LabelEntry as its kind.
+#[derive(Clone, Copy)]
+pub enum LabelKind {
+    Call,
+    Jmp,
+    Prophet,
+}
+
 // An entry of the lent label table: kind 0 call, 1 `.LBL`, 2 prophet; the name's start and length in the source without its colon;
 // the address that the row marks (a prophet label's host), 0 where it is unmapped.
 #[repr(C)]
@@ -57,13 +65,6 @@ pub struct Layout {
     pub end: usize,
 }
 
-// Whether a source passes refusals 1 to 6, or, for a label table of so many entries, 1 to 7.
-#[derive(Clone, Copy)]
-pub enum Measured {
-    Is(Layout),
-    Refused(RelocateRefusal),
-}
-
 // What a source takes: its label rows, instructions, counted length and words.
 #[derive(Clone, Copy)]
 pub struct RoomFigures {
@@ -71,27 +72,6 @@ pub struct RoomFigures {
     pub instructions: usize,
     pub counted: usize,
     pub words: usize,
-}
-
-// What a source takes, where it passes refusals 1 to 6.
-#[derive(Clone, Copy)]
-pub enum RoomFound {
-    Is(RoomFigures),
-    Refused(RelocateRefusal),
-}
-
-// The address of the row that holds a name, or none.
-#[derive(Clone, Copy)]
-pub enum AddressFound {
-    At(WordAddress),
-    Nothing,
-}
-
-// How many prophets a list names, where refusals 8 and 9 do not turn it away.
-#[derive(Clone, Copy)]
-pub enum ProphetsListed {
-    Is(usize),
-    Refused(RelocateRefusal),
 }
 
 impl WordAddress {

@@ -4,15 +4,9 @@ use mathlib.Core.Path.{◌≡◌, sym, ◌∙◌}
 use mathlib.Core.List.{List, [], ◌∷◌}
 use native.Mathlib.Omega.{arith}
 use borrow.Author.Rules.{rules}
-use lib.ListN.{length, get_or, drop, drop_of_length-le, get_or-eq_default}
+use lib.ListN.{length, get_or, drop, drop_of_length-le}
 use Rattle.text.proofs.Laws.{drop_next}
 use Rattle.relocate_chains.specs.Chains.{bucket_from, bucket_of}
-
--- past the last cell there is 0
-pub cell_past : (l : List ℕ) (at : ℕ) → length l ≤ at → 0 ≡ get_or l at 0
-cell_past l at h = sym (get_or-eq_default l 0 h)
-
-pub ruleset cell_laws = (cell_past, rules)
 
 module _ (x : List ℕ) (h i : ℕ) (e : bucket_of x ≡ bucket_from h (drop i x)) where
   -- a byte is added

@@ -1,4 +1,5 @@
 -- With the entries of a label table chained, where no bucket had an entry, the row found by the chains is the one that holds the name.
+use Rattle.std.specs.Prelude.{Option, Some, None}
 use Prim.Native.Nat.{ℕ, zero, suc, ◌+◌, ◌<◌, ◌≤◌}
 use mathlib.Core.Path.{◌≡◌, refl, sym, ap, subst, ◌∙◌}
 use mathlib.Core.List.{List, [], ◌∷◌}
@@ -14,12 +15,11 @@ use Rattle.text.proofs.SameLaws.{same_equal}
 use Rattle.asm.specs.Parts.{name_at}
 use Rattle.relocate.specs.Columns.{entry_names, later_address, held_address}
 use Rattle.relocate.specs.declared.LabelEntry.{LabelEntry}
-use Rattle.relocate.specs.declared.AddressFound.{AddressFound}
-use Rattle.relocate.specs.declared.AddressFound.TheVariants.{At, Nothing}
 use Rattle.relocate_names.proofs.NameLaws.{held_last}
 use Rattle.relocate_chains.specs.Chains.{bucket_of, entry_bucket, no_entry, chained, chains_left, sought_from, chained_address}
 use Rattle.relocate_chains.proofs.BucketLaws.{bucket_small}
 use Rattle.relocate_chains.proofs.SearchLaws.{sought_at}
+use Rattle.relocate.specs.declared.WordAddress.{WordAddress}
 
 -- ---- what the cells hold
 
@@ -140,8 +140,8 @@ module _ (s : List ℕ) (es : List LabelEntry) where
         here : LabelEntry
         here = get_or es k no_entry
 
-        found : AddressFound
-        found = cond (entry_names s kind x here) (At here.address) Nothing
+        found : Option WordAddress
+        found = cond (entry_names s kind x here) (Some here.address) None
 
         held : held_address s kind x (take (suc k) es) ≡ later_address found (held_address s kind x (take k es))
         held = ap (held_address s kind x) (take-suc es k no_entry h) ∙ held_last s kind x (take k es) here

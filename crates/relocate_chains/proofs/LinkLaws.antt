@@ -1,5 +1,5 @@
 -- The loop that chains a table's entries: the chains to be left are those reached with the entries that follow chained.
-use Prim.Native.Nat.{ℕ, suc, ◌+◌, ◌-◌, ◌<◌, ◌≤◌}
+use Prim.Native.Nat.{ℕ, suc, ◌+◌, ◌<◌, ◌≤◌}
 use mathlib.Core.Path.{◌≡◌, sym, ap, ◌∙◌}
 use mathlib.Core.List.{List, ◌∷◌}
 use mathlib.Core.Bool.{Bool}
@@ -12,52 +12,38 @@ use lib.Seq.{drop-cons}
 use Rattle.asm.specs.Parts.{name_at}
 use Rattle.relocate.specs.Columns.{entries_of}
 use Rattle.relocate.specs.declared.LabelEntry.{LabelEntry}
-use Rattle.relocate_names.specs.Shortest.{shortest_of}
 use Rattle.relocate_names.proofs.NameLaws.{entries_length, entry_at, entries_at}
 use Rattle.relocate_chains.specs.Chains.{bucket_of, no_entry, chained, chains_left}
 
-module _ (s ks : List ℕ) (ms : List Bool) (ss ls as' : List ℕ) (n : ℕ) (e : n ≡ shortest_of (length ks) (length ms) (length ss) (length ls) (length as')) (ch₀ : List ℕ) where
+module _ (s ks : List ℕ) (ms : List Bool) (ss ls as' : List ℕ) (n : ℕ) (e : n ≡ length (entries_of ks ms ss ls as')) (ch₀ : List ℕ) where
   abbrev entries : List LabelEntry
   entries = entries_of ks ms ss ls as'
 
   -- without a cell for each bucket and each entry the chains are left as they are
-  small : length ch₀ < 1024 + n → ch₀ ≡ chains_left s entries ch₀
-  small h = let l = entries_length ks ms ss ls as' in rw (lt-ltb (length ch₀) (1024 + length entries) (omega arith))
-
-  -- so without a cell for each bucket
-  pub few_buckets : length ch₀ < 1024 → ch₀ ≡ chains_left s (entries_of ks ms ss ls as') ch₀
-  few_buckets h = small (omega arith)
-
-  -- and without one for each entry
-  pub few_cells : 1024 ≤ length ch₀ → length ch₀ - 1024 < n → ch₀ ≡ chains_left s (entries_of ks ms ss ls as') ch₀
-  few_cells h k = small (omega arith)
+  pub few_cells : length ch₀ < 1024 + n → ch₀ ≡ chains_left s (entries_of ks ms ss ls as') ch₀
+  few_cells h = rw (lt-ltb (length ch₀) (1024 + length entries) (omega arith))
 
   -- nor are more entries chained than a cell can count
-  pub many_entries : 1024 ≤ length ch₀ → n ≤ length ch₀ - 1024 → 65535 < n → ch₀ ≡ chains_left s (entries_of ks ms ss ls as') ch₀
-  many_entries a b h = let l = entries_length ks ms ss ls as' in rw (le-ltb (length ch₀) (1024 + length entries) (omega arith), lt-ltb 65535 (length entries) (omega arith))
+  pub many_entries : 1024 + n ≤ length ch₀ → 65535 < n → ch₀ ≡ chains_left s (entries_of ks ms ss ls as') ch₀
+  many_entries b h = rw (le-ltb (length ch₀) (1024 + length entries) (omega arith), lt-ltb 65535 (length entries) (omega arith))
 
   module _ (i : ℕ) (ch : List ℕ) (k : chained s 0 (entries_of ks ms ss ls as') ch₀ ≡ chained s i (drop i (entries_of ks ms ss ls as')) ch) where
     -- an entry is chained
-    pub link_more : (p : List ℕ) (b c : ℕ) → i < n → p ≡ name_at s (get_or ss i 0) (get_or ls i 0) → b ≡ bucket_of p → c ≡ i + 1
-        → chained s 0 (entries_of ks ms ss ls as') ch₀ ≡ chained s (i + 1) (drop (i + 1) (entries_of ks ms ss ls as')) (set (set ch (1024 + i) (get_or ch b 0)) b c)
+    pub link_more : (p : List ℕ) (b : ℕ) → i < n → p ≡ name_at s (get_or ss i 0) (get_or ls i 0) → b ≡ bucket_of p
+        → chained s 0 (entries_of ks ms ss ls as') ch₀ ≡ chained s (i + 1) (drop (i + 1) (entries_of ks ms ss ls as')) (set (set ch (1024 + i) (get_or ch b 0)) b (i + 1))
     unfolding chained
-    link_more p b c h q r v =
+    link_more p b h q r =
         let l = entries_length ks ms ss ls as' in
         let d : drop i entries ≡ entry_at ks ms ss ls as' i ∷ drop (suc i) entries = drop-cons entries i no_entry (omega arith) ∙ ap (λ (e : LabelEntry). e ∷ drop (suc i) entries) (entries_at ks ms ss ls as' i (omega arith) (omega arith) (omega arith) (omega arith) (omega arith)) in
-        k ∙ ap (λ (es : List LabelEntry). chained s i es ch) d ∙ rw (v, r, q, add-one i)
+        k ∙ ap (λ (es : List LabelEntry). chained s i es ch) d ∙ rw (r, q, add-one i)
 
     -- all are
-    pub link_end : n ≤ i → 1024 ≤ length ch₀ → n ≤ length ch₀ - 1024 → n ≤ 65535 → ch ≡ chains_left s (entries_of ks ms ss ls as') ch₀
+    pub link_end : n ≤ i → 1024 + n ≤ length ch₀ → n ≤ 65535 → ch ≡ chains_left s (entries_of ks ms ss ls as') ch₀
     unfolding chained
-    link_end h a b c =
-        let l = entries_length ks ms ss ls as' in
+    link_end h b c =
         let d = drop_of_length-le entries {i = i} (omega arith) in
         let t = le-ltb (length ch₀) (1024 + length entries) (omega arith) in
         let u = le-ltb 65535 (length entries) (omega arith) in
         sym (rw (t, u) (k ∙ rw d))
 
--- fewer entries are left
-pub link_less : (n i : ℕ) → i < n → n - (i + 1) < n - i
-link_less n i h = omega arith
-
-pub ruleset link_laws = (link_less, few_buckets, few_cells, many_entries, link_more, link_end, rules)
+pub ruleset link_laws = (few_cells, many_entries, link_more, link_end, rules)

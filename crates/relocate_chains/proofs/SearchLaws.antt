@@ -1,4 +1,5 @@
 -- The search for the row that holds a name, along the chain of the name's bucket.
+use Rattle.std.specs.Prelude.{Option, Some, None}
 use Prim.Native.Nat.{ℕ, zero, suc, ◌+◌, ◌-◌, ◌<◌, ◌≤◌}
 use mathlib.Core.Path.{◌≡◌, refl, sym, ap, ◌∙◌}
 use mathlib.Core.List.{List}
@@ -13,9 +14,6 @@ use Rattle.asm.specs.Parts.{name_at}
 use Rattle.relocate.specs.Columns.{entries_of, entry_names, later_address}
 use Rattle.relocate.specs.declared.WordAddress.{WordAddress}
 use Rattle.relocate.specs.declared.LabelEntry.{LabelEntry}
-use Rattle.relocate.specs.declared.AddressFound.{AddressFound}
-use Rattle.relocate.specs.declared.AddressFound.TheVariants.{At, Nothing}
-use Rattle.relocate_names.specs.Shortest.{shortest_of}
 use Rattle.relocate_names.proofs.NameLaws.{entries_length, entry_at, entries_at}
 use Rattle.relocate_chains.specs.Chains.{bucket_of, no_entry, sought_from, chained_address}
 
@@ -23,24 +21,24 @@ use Rattle.relocate_chains.specs.Chains.{bucket_of, no_entry, sought_from, chain
 
 module _ (s : List ℕ) (es : List LabelEntry) (ch : List ℕ) (kind : ℕ) (x : List ℕ) where
   -- the place is none of the first k entries', and no entry is found
-  pub sought_past : (k at : ℕ) → k < at → sought_from s es ch kind x k at ≡ Nothing
+  pub sought_past : (k at : ℕ) → k < at → sought_from s es ch kind x k at ≡ None
   unfolding sought_from
   sought_past zero at h = refl
   sought_past (suc k) at h = rw (ne_eqb at (suc k) (λ e. omega arith)) (sought_past k at (omega arith))
 
   -- nor at 0, which is no entry's place
-  pub sought_none : (k : ℕ) → sought_from s es ch kind x k 0 ≡ Nothing
+  pub sought_none : (k : ℕ) → sought_from s es ch kind x k 0 ≡ None
   unfolding sought_from
   sought_none zero = refl
   sought_none (suc k) = rw (ne_eqb 0 (suc k) (λ e. omega arith)) (sought_none k)
 
   -- the entry at place j has the name, or the search goes on from the place that its cell holds
-  abbrev from : ℕ → AddressFound
-  from j = later_address (cond (entry_names s kind x (get_or es j no_entry)) (At (get_or es j no_entry).address) Nothing) (sought_from s es ch kind x j (get_or ch (1024 + j) 0))
+  abbrev from : ℕ → Option WordAddress
+  from j = later_address (cond (entry_names s kind x (get_or es j no_entry)) (Some (get_or es j no_entry).address) None) (sought_from s es ch kind x j (get_or ch (1024 + j) 0))
 
   -- so it goes at an entry's place
   pub sought_at : (k j : ℕ) → j < k
-      → sought_from s es ch kind x k (suc j) ≡ later_address (cond (entry_names s kind x (get_or es j no_entry)) (At (get_or es j no_entry).address) Nothing) (sought_from s es ch kind x j (get_or ch (1024 + j) 0))
+      → sought_from s es ch kind x k (suc j) ≡ later_address (cond (entry_names s kind x (get_or es j no_entry)) (Some (get_or es j no_entry).address) None) (sought_from s es ch kind x j (get_or ch (1024 + j) 0))
   unfolding sought_from
   sought_at zero j h = absurd (omega arith)
   sought_at (suc k) j h = go (eqb (suc j) (suc k)) refl (sought_at k j)
@@ -56,31 +54,32 @@ module _ (s : List ℕ) (kind : ℕ) (x ks : List ℕ) (ms : List Bool) (ss ls a
   entries = entries_of ks ms ss ls as'
 
   -- the search begins at the place that the bucket's cell holds
-  pub chained_start : (n b at : ℕ) → n ≡ shortest_of (length ks) (length ms) (length ss) (length ls) (length as') → b ≡ bucket_of x → at ≡ get_or ch b 0
+  pub chained_start : (n b at : ℕ) → n ≡ length (entries_of ks ms ss ls as') → b ≡ bucket_of x → at ≡ get_or ch b 0
       → chained_address s (entries_of ks ms ss ls as') ch kind x ≡ sought_from s (entries_of ks ms ss ls as') ch kind x n at
   unfolding chained_address
-  chained_start n b at e f g = rw (g, f, e, entries_length ks ms ss ls as')
+  chained_start n b at e f g = rw (g, f, e)
 
   module _ (i at : ℕ) (k : chained_address s (entries_of ks ms ss ls as') ch kind x ≡ sought_from s (entries_of ks ms ss ls as') ch kind x i at) where
     -- it ends at 0
-    pub chained_none : at ≤ 0 → Nothing ≡ chained_address s (entries_of ks ms ss ls as') ch kind x
+    pub chained_none : at ≤ 0 → None ≡ chained_address s (entries_of ks ms ss ls as') ch kind x
     chained_none h = let e : at ≡ 0 = omega arith in sym (k ∙ ap (sought_from s entries ch kind x i) e ∙ sought_none s entries ch kind x i)
 
     -- and at a place that is not in front of the one passed
-    pub chained_past : i < at → Nothing ≡ chained_address s (entries_of ks ms ss ls as') ch kind x
+    pub chained_past : i < at → None ≡ chained_address s (entries_of ks ms ss ls as') ch kind x
     chained_past h = sym (k ∙ sought_past s entries ch kind x i at h)
 
-    module _ (a : 0 < at) (z : at ≤ i) (b : i ≤ length ks) (c : i ≤ length ms) (d : i ≤ length ss) (f : i ≤ length ls) (g : i ≤ length as') where
+    module _ (a : 0 < at) (z : at ≤ i) (b : i ≤ length (entries_of ks ms ss ls as')) where
       -- the entry at the place reached
       turn : (t : Bool) → entry_names s kind x (entry_at ks ms ss ls as' (at - 1)) ≡ t
-          → chained_address s entries ch kind x ≡ later_address (cond t (At (record { 0 = get_or as' (at - 1) 0 })) Nothing) (sought_from s entries ch kind x (at - 1) (get_or ch (1024 + (at - 1)) 0))
+          → chained_address s entries ch kind x ≡ later_address (cond t (Some (record { 0 = get_or as' (at - 1) 0 })) None) (sought_from s entries ch kind x (at - 1) (get_or ch (1024 + (at - 1)) 0))
       turn t h =
+          let n = entries_length ks ms ss ls as' in
           let j : at ≡ suc (at - 1) = omega arith in
           let e : get_or entries (at - 1) no_entry ≡ entry_at ks ms ss ls as' (at - 1) = entries_at ks ms ss ls as' (at - 1) (omega arith) (omega arith) (omega arith) (omega arith) (omega arith) in
           k
           ∙ ap (sought_from s entries ch kind x i) j
           ∙ sought_at s entries ch kind x i (at - 1) (omega arith)
-          ∙ ap (λ (e : LabelEntry). later_address (cond (entry_names s kind x e) (At e.address) Nothing) (sought_from s entries ch kind x (at - 1) (get_or ch (1024 + (at - 1)) 0))) e
+          ∙ ap (λ (e : LabelEntry). later_address (cond (entry_names s kind x e) (Some e.address) None) (sought_from s entries ch kind x (at - 1) (get_or ch (1024 + (at - 1)) 0))) e
           ∙ rw h
 
       -- the search goes on where the entry does not have the name
@@ -109,7 +108,7 @@ module _ (s : List ℕ) (kind : ℕ) (x ks : List ℕ) (ms : List Bool) (ss ls a
           chained_miss r q e = on r q (named ∙ e)
 
           -- otherwise the entry is found
-          pub chained_hit : (w : WordAddress) → t ≡ true → w ≡ record { 0 = get_or as' (at - 1) 0 } → At w ≡ chained_address s (entries_of ks ms ss ls as') ch kind x
-          chained_hit w e v = ap At v ∙ sym (turn true (named ∙ e))
+          pub chained_hit : (w : WordAddress) → t ≡ true → w ≡ record { 0 = get_or as' (at - 1) 0 } → Some w ≡ chained_address s (entries_of ks ms ss ls as') ch kind x
+          chained_hit w e v = ap Some v ∙ sym (turn true (named ∙ e))
 
 pub ruleset chained_laws = (chained_start, chained_none, chained_past, chained_unmapped, chained_other, chained_miss, chained_hit, rules)

@@ -1,10 +1,9 @@
 -- The label table's entries chained by the bucket of their name: ChainLaws says that with these chains the row that is found is the one that holds the name.
-use Rattle.std.specs.Prelude.{ℕ, zero, suc, ◌+◌, ◌*◌, ◌%◌, List, [], ◌∷◌, false, cond, eqb, ltb, length, get_or, set}
+use Rattle.std.specs.Prelude.{ℕ, zero, suc, ◌+◌, ◌*◌, ◌%◌, List, [], ◌∷◌, false, cond, eqb, ltb, length, get_or, set, Option, Some, None}
 use Rattle.asm.specs.Parts.{name_at}
 use Rattle.relocate.specs.Columns.{entry_names, later_address}
 use Rattle.relocate.specs.declared.LabelEntry.{LabelEntry}
-use Rattle.relocate.specs.declared.AddressFound.{AddressFound}
-use Rattle.relocate.specs.declared.AddressFound.TheVariants.{At, Nothing}
+use Rattle.relocate.specs.declared.WordAddress.{WordAddress}
 
 abbrev pub buckets : ℕ
 buckets = 1024
@@ -34,16 +33,16 @@ abbrev pub no_entry : LabelEntry
 no_entry = record { kind = 0; mapped = false; start = 0; length = 0; address = record { 0 = 0 } }
 
 -- among the first k entries, the first on the chain from the place `at`, counted from 1, that has the name and is mapped
-unfoldable pub sought_from : List ℕ → List LabelEntry → List ℕ → ℕ → List ℕ → ℕ → ℕ → AddressFound
-sought_from s es chains kind x zero at = Nothing
+unfoldable pub sought_from : List ℕ → List LabelEntry → List ℕ → ℕ → List ℕ → ℕ → ℕ → Option WordAddress
+sought_from s es chains kind x zero at = None
 sought_from s es chains kind x (suc k) at =
     cond
     (eqb at (suc k))
     (later_address
-    (cond (entry_names s kind x (get_or es k no_entry)) (At (get_or es k no_entry).address) Nothing)
+    (cond (entry_names s kind x (get_or es k no_entry)) (Some (get_or es k no_entry).address) None)
     (sought_from s es chains kind x k (get_or chains (buckets + k) 0)))
     (sought_from s es chains kind x k at)
 
 -- the address of the row that holds a name of a kind, by the chains
-unfoldable pub chained_address : List ℕ → List LabelEntry → List ℕ → ℕ → List ℕ → AddressFound
+unfoldable pub chained_address : List ℕ → List LabelEntry → List ℕ → ℕ → List ℕ → Option WordAddress
 chained_address s es chains kind x = sought_from s es chains kind x (length es) (get_or chains (bucket_of x) 0)

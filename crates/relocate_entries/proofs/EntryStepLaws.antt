@@ -1,4 +1,5 @@
 -- The table filled entry by entry is the label table.
+use Rattle.std.specs.Prelude.{Result, Ok, Err}
 use Prim.Native.Nat.{ℕ, zero, suc, ◌+◌, ◌<◌, ◌≤◌}
 use mathlib.Core.Path.{◌≡◌, refl, sym, ap, subst, ◌∙◌}
 use mathlib.Core.List.{List, [], ◌∷◌}
@@ -9,16 +10,18 @@ use borrow.Author.Tests.{ltb-true, ltb-false}
 use lib.Dec.{ltb}
 use lib.ListN.{length}
 use lib.Seq.{sets}
-use Rattle.text.specs.Answer.{Answer, ok, refused, on_ok}
+use Rattle.text.specs.Answer.{ok, on_ok}
 use Rattle.text.proofs.AnswerLaws.{sets_over}
 use Rattle.asm.specs.declared.AsmRow.TheVariants.{Instruction, LabelCall, LabelJmp, LabelProphet}
 use Rattle.asm.specs.declared.LineRead.{LineRead}
 use Rattle.asm.specs.declared.LineRead.TheVariants.{Blank, Row, Unreadable}
 use Rattle.asm.specs.declared.RowAt.{RowAt}
-use Rattle.relocate.specs.Layout.{measured, sorted_row_at}
+use Rattle.relocate.specs.Relocate.{relocate_number, relocate_detail}
+use Rattle.relocate.specs.Layout.{measured, measured_numbered, sorted_row_at}
 use Rattle.relocate.specs.Columns.{table_left}
 use Rattle.relocate.specs.declared.LabelEntry.{LabelEntry}
 use Rattle.relocate.specs.declared.Layout.{Layout}
+use Rattle.relocate.specs.declared.RelocateRefusal.{RelocateRefusal}
 use Rattle.relocate_laws.proofs.StretchLaws.{measured_short, measured_room}
 use Rattle.relocate_laws.proofs.WalkLaws.{sorted_end, sorted_blank, sorted_row, sorted_unreadable}
 use Rattle.relocate_rows.specs.declared.Progress.{Progress}
@@ -26,7 +29,7 @@ use Rattle.relocate_rows.specs.Entries.{after, entries_after}
 use Rattle.relocate_rows.proofs.LaidLaws.{entries_from, all_entries, laid, not_tabled}
 use Rattle.relocate_entries.specs.declared.Walk.{Walk}
 use Rattle.relocate_entries.specs.declared.LabelStep.{LabelStep}
-use Rattle.relocate_entries.specs.Steps.{WalkFits, after_line, entry_in, or_later, label_step_in, walk_at, Fillable, entries_filled, layout_in, rows_in}
+use Rattle.relocate_entries.specs.Steps.{WalkFits, after_line, entry_in, or_later, label_step_in, walk_at, Fillable, entries_filled}
 use Rattle.relocate_entries.proofs.NextLaws.{fits_line, further_on, step_line}
 
 -- ---- one entry
@@ -136,39 +139,38 @@ puts s room l table m (suc n) h =
 
 -- ---- the whole table
 
--- there is room for every entry that is filled
-pub rows_fit : (s : List ℕ) (room : ℕ) → rows_in (measured s room) ≤ room
-rows_fit s room = go (measured s room) refl
-  where
-    go : (x : Answer Layout) → measured s room ≡ x → rows_in x ≤ room
-    go (ok l) e = measured_room s room l e
-    go (refused n d) e = omega arith
-
--- the walk fits before each of them
-pub fillable : (s : List ℕ) (room : ℕ) → Fillable s (layout_in (measured s room)) (rows_in (measured s room))
-fillable s room = go (measured s room) refl
-  where
-    go : (x : Answer Layout) → measured s room ≡ x → Fillable s (layout_in x) (rows_in x)
-    go (ok l) e i h = let v = (laid s room l e).many in (puts s room l [] e i (omega arith)).fits
-    go (refused n d) e i h = absurd (omega arith)
-
 -- where no entry is left, a table is what it was to become
 put_all : (t filled : List LabelEntry) (n : ℕ) (left : List LabelEntry) → n + length left ≡ n → t ≡ sets filled n left → filled ≡ t
 put_all t filled n [] h e = sym e
 put_all t filled n (x ∷ left) h e = absurd (omega arith)
 
--- a table with all of them filled is as it is left
-pub entries_left_in : (s : List ℕ) (t : List LabelEntry) → entries_filled s (layout_in (measured s (length t))) t (rows_in (measured s (length t))) ≡ table_left s t
-unfolding on_ok entries_filled
-entries_left_in s t = go (measured s (length t)) refl
-  where
-    go : (x : Answer Layout) → measured s (length t) ≡ x → entries_filled s (layout_in x) t (rows_in x) ≡ table_left s t
-    go (ok l) e =
+module _ (s : List ℕ) (t : List LabelEntry) (found : Result Layout RelocateRefusal) (h : measured_numbered found ≡ measured s (length t)) where
+  module _ (l : Layout) (f : found ≡ Ok l) where
+    e : measured s (length t) ≡ ok l
+    e = sym h ∙ ap measured_numbered f
+
+    -- there is room for every entry that is filled
+    pub rows_fit : l.labels ≤ length t
+    rows_fit = measured_room s (length t) l e
+
+    -- the walk fits before each of them
+    pub fillable : Fillable s l l.labels
+    fillable i h = let v = (laid s (length t) l e).many in (puts s (length t) l [] e i (omega arith)).fits
+
+    -- a table with all of them filled is as it is left
+    pub entries_left_in : (x : List LabelEntry) → x ≡ entries_filled s l t l.labels → x ≡ table_left s t
+    unfolding on_ok entries_filled
+    entries_left_in x f =
         let v = laid s (length t) l e in
         let a = v.many in
         let w = puts s (length t) l t e l.labels (omega arith) in
         let c = w.count in
-        put_all _ _ l.labels (entries_from s l (walk_at s l l.labels).progress (walk_at s l l.labels).at) (omega arith) w.put
+        f
+        ∙ put_all _ _ l.labels (entries_from s l (walk_at s l l.labels).progress (walk_at s l l.labels).at) (omega arith) w.put
         ∙ sets_over (all_entries s l) t v.enough
         ∙ rw (v.table, sym v.entries)
-    go (refused n d) e = rw (not_tabled s (length t) n d e)
+
+  -- a refusal leaves it as it is
+  pub refused_left : (x : RelocateRefusal) → found ≡ Err x → t ≡ table_left s t
+  unfolding on_ok
+  refused_left x f = rw (not_tabled s (length t) (relocate_number x) (relocate_detail x) (sym h ∙ ap measured_numbered f))

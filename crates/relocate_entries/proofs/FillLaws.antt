@@ -1,52 +1,32 @@
--- Truth values, numbers, and a table that is filled up to some entry: what `fill_entries` keeps.
+-- A table that is filled up to some entry: what `fill_entries` keeps.
 use mathlib.Core.Path.{◌≡◌, refl, ap, ◌∙◌}
-use mathlib.Core.Bool.{Bool, true, false}
-use Prim.Native.Nat.{ℕ, zero, suc, ◌+◌, ◌-◌, ◌<◌}
+use Prim.Native.Nat.{ℕ, suc, ◌+◌, ◌<◌}
 use native.Mathlib.Omega.{arith}
+use borrow.Author.Rules.{rules}
 use mathlib.Core.List.{List}
-use lib.Dec.{T as Holds}
 use lib.ListN.{length, set, length-set}
 use Rattle.relocate.specs.declared.LabelEntry.{LabelEntry}
 use Rattle.relocate.specs.declared.Layout.{Layout}
 use Rattle.relocate_entries.specs.declared.Walk.{Walk}
 use Rattle.relocate_entries.specs.declared.LabelStep.{LabelStep}
-use Rattle.relocate_entries.specs.Steps.{label_step, walk_at, entries_filled}
+use Rattle.relocate_entries.specs.Steps.{WalkFits, label_step, walk_at, Fillable, entries_filled}
 
--- ---- truth values and numbers
-pub holds : (t : Bool) → Holds t → t ≡ true
-holds true _ = refl
-holds false a = absurd a
-
-pub fails : (t : Bool) → (Holds t → ⊥) → t ≡ false
-fails true g = absurd (g tt)
-fails false _ = refl
-
-pub one_more : (i : ℕ) → i + 1 ≡ suc i
+one_more : (i : ℕ) → i + 1 ≡ suc i
 one_more i = omega arith
 
-pub below_refl : (n : ℕ) → n < n → ⊥
-below_refl n h = omega arith
-
-pub from_top : (n : ℕ) → n ≡ n - 0
-from_top n = omega arith
-
--- the table keeps its length
-pub length_filled : (s : List ℕ) (l : Layout) (ys : List LabelEntry) (n : ℕ) → length (entries_filled s l ys n) ≡ length ys
-unfolding entries_filled
-length_filled s l ys zero = refl
-length_filled s l ys (suc n) = length-set (entries_filled s l ys n) n (label_step s l (walk_at s l n)).entry ∙ length_filled s l ys n
-
--- a walk starts with nothing counted, and no entry is filled then
-abbrev pub start : Walk
-start = record { progress = record { seen = 0; address = 0; host = 0 }; at = 0 }
-
-pub at_start : (s : List ℕ) (l : Layout) → walk_at s l 0 ≡ start
+-- a walk starts with nothing counted
+pub at_start : (s : List ℕ) (l : Layout) → record { progress = record { seen = 0; address = 0; host = 0 }; at = 0 } ≡ walk_at s l 0
 unfolding walk_at
 at_start s l = refl
 
-pub none_filled : (s : List ℕ) (l : Layout) (ys : List LabelEntry) → entries_filled s l ys 0 ≡ ys
+-- and no entry is filled then
+pub none_filled : (s : List ℕ) (l : Layout) (ys : List LabelEntry) → ys ≡ entries_filled s l ys 0
 unfolding entries_filled
 none_filled s l ys = refl
+
+-- the walk fits before each entry that is filled
+pub walk_fits : (s : List ℕ) (l : Layout) (n i : ℕ) (w : Walk) → Fillable s l n → i < n → w ≡ walk_at s l i → WalkFits s l w
+walk_fits s l n i w f h e = rw e (f i h)
 
 -- ---- one turn more
 module _ (s : List ℕ) (l : Layout) (i : ℕ) (w : Walk) (r : LabelStep) (e : w ≡ walk_at s l i) (f : r ≡ label_step s l w) where
@@ -59,3 +39,5 @@ module _ (s : List ℕ) (l : Layout) (i : ℕ) (w : Walk) (r : LabelStep) (e : w
   pub filled_more : (ys t : List LabelEntry) → t ≡ entries_filled s l ys i → set t i r.entry ≡ entries_filled s l ys (i + 1)
   unfolding entries_filled
   filled_more ys t g = rw (one_more i, g) (ap (λ (x : LabelStep). set (entries_filled s l ys i) i x.entry) (f ∙ ap (label_step s l) e))
+
+pub ruleset fill_laws = (at_start, none_filled, walk_fits, walk_more, filled_more, length-set, rules)

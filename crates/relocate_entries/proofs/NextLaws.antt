@@ -1,4 +1,5 @@
 -- The walk to the next label row: its lines are no more than the source has bytes, and the counts stay small.
+use Rattle.std.specs.Prelude.{Option, Some, None}
 use Prim.Native.Nat.{ℕ, zero, suc, ◌+◌, ◌-◌, ◌*◌, ◌<◌, ◌≤◌}
 use mathlib.Core.Path.{◌≡◌, refl, sym, ◌∙◌}
 use mathlib.Core.List.{List}
@@ -18,12 +19,8 @@ use Rattle.relocate.specs.declared.LabelEntry.{LabelEntry}
 use Rattle.relocate.specs.declared.Layout.{Layout}
 use Rattle.relocate_laws.proofs.WalkLaws.{sorted_next_past, sorted_next_within}
 use Rattle.relocate_rows.specs.declared.Progress.{Progress}
-use Rattle.relocate_rows.specs.declared.Advanced.{Advanced}
-use Rattle.relocate_rows.specs.declared.Advanced.TheVariants.{Is as IsProgress, Beyond}
-use Rattle.relocate_rows.specs.declared.EntryFound.{EntryFound}
-use Rattle.relocate_rows.specs.declared.EntryFound.TheVariants.{Is, Nothing}
 use Rattle.relocate_rows.specs.Entries.{label_entry, entry_of_row, largest_count, advanced}
-use Rattle.relocate_rows.proofs.Laws.{counted_length_le, come_after, not_beyond}
+use Rattle.relocate_rows.proofs.Laws.{counted_length_le, come_after}
 use Rattle.relocate_entries.specs.declared.Walk.{Walk}
 use Rattle.relocate_entries.specs.declared.LabelStep.{LabelStep}
 use Rattle.relocate_entries.specs.Steps.{WalkFits, entry_in, after_line, step_at, or_later, label_step_in}
@@ -123,10 +120,6 @@ module _ {s : List ℕ} {l : Layout} {p₀ : Progress} {at₀ : ℕ} {p : Progre
   small : (p.seen ≤ largest_count) × (p.address ≤ largest_count)
   small = let a = w.fits.short in let b = w.fits.seen in let c = w.fits.address in let d = w.fits.within in (omega arith, omega arith)
 
-  -- so it is not beyond after a row
-  pub stepping_beyond : (row : AsmRow) (a : Advanced) → a ≡ advanced p row → a ≡ Beyond → ⊥
-  stepping_beyond row a e = not_beyond p row small a e
-
   -- at the source's end there is no label row
   pub stepping_end : (r : LabelStep) → length s ≤ at → r ≡ step_at (label_entry 0 false 0 0 0) p at → r ≡ label_step_in (length s) s l p₀ at₀
   stepping_end r h e = e ∙ sym (w.same ∙ step_past s l (length s) p at h)
@@ -142,24 +135,25 @@ module _ {s : List ℕ} {l : Layout} {p₀ : Progress} {at₀ : ℕ} {p : Progre
     by_line_lem r f = w.same ∙ step_line s l w.fits.ordered w.fits.ended p at line e h ∙ rw f
 
     -- a line with no entry is passed
-    passed : (r : LineRead) → line.read ≡ r → entry_in l.instructions p r ≡ Nothing → Stepping s l p₀ at₀ (after_line p r) line.next
+    passed : (r : LineRead) → line.read ≡ r → entry_in l.instructions p r ≡ None → Stepping s l p₀ at₀ (after_line p r) line.next
     passed r f g = record { fits = fits_line w.fits line e h r; same = by_line_lem r f ∙ rw g }
 
-    -- one with no piece
-    pub stepping_blank : line.read ≡ Blank → Stepping s l p₀ at₀ p line.next
-    stepping_blank f = passed Blank f refl
+    -- as is one that is no row
+    pub stepping_other : ((r : AsmRow) → line.read ≡ Row r → ⊥) → Stepping s l p₀ at₀ p line.next
+    stepping_other k = go line.read refl
+      where
+        go : (r : LineRead) → line.read ≡ r → Stepping s l p₀ at₀ p line.next
+        go Blank f = passed Blank f refl
+        go Unreadable f = passed Unreadable f refl
+        go (Row r) f = absurd (k r f)
 
-    -- an unreadable one
-    pub stepping_unreadable : line.read ≡ Unreadable → Stepping s l p₀ at₀ p line.next
-    stepping_unreadable f = passed Unreadable f refl
-
-    module _ (row : AsmRow) (f : line.read ≡ Row row) (found : EntryFound) (g : found ≡ entry_of_row l.instructions p row) (a : Advanced) (q : Progress) (i : a ≡ advanced p row) (j : a ≡ IsProgress q) where
+    module _ (row : AsmRow) (f : line.read ≡ Row row) (found : Option LabelEntry) (g : found ≡ entry_of_row l.instructions p row) (a : Option Progress) (q : Progress) (i : a ≡ advanced p row) (j : a ≡ Some q) where
       -- a row with no entry
-      pub stepping_row : found ≡ Nothing → Stepping s l p₀ at₀ q line.next
+      pub stepping_row : found ≡ None → Stepping s l p₀ at₀ q line.next
       stepping_row k = rw (come_after p row small a i q j) (passed (Row row) f (sym g ∙ k))
 
       -- the entry of a label row is the next one
-      pub stepping_found : (x : LabelEntry) → found ≡ Is x → step_at x q line.next ≡ label_step_in (length s) s l p₀ at₀
+      pub stepping_found : (x : LabelEntry) → found ≡ Some x → step_at x q line.next ≡ label_step_in (length s) s l p₀ at₀
       stepping_found x k = sym (by_line_lem (Row row) f ∙ rw (sym g, k, come_after p row small a i q j))
 
-pub ruleset next_laws = (stepping_begin, stepping_beyond, stepping_end, stepping_less, stepping_blank, stepping_unreadable, stepping_row, stepping_found, rules)
+pub ruleset next_laws = (stepping_begin, stepping_end, stepping_less, stepping_found, rules)

@@ -1,14 +1,11 @@
 -- The label table entry by entry: the next label row of a walk over the sorted rows.
-use Rattle.std.specs.Prelude.{ℕ, zero, suc, ◌*◌, ◌<◌, ◌≤◌, List, false, cond, ltb, length, set}
-use Rattle.text.specs.Answer.{Answer, ok, refused}
+use Rattle.std.specs.Prelude.{ℕ, zero, suc, ◌*◌, ◌<◌, ◌≤◌, List, false, cond, ltb, length, set, Option, Some, None}
 use Rattle.asm.specs.declared.LineRead.{LineRead}
 use Rattle.asm.specs.declared.LineRead.TheVariants.{Blank, Row, Unreadable}
 use Rattle.relocate.specs.Layout.{sorted_row_at}
 use Rattle.relocate.specs.declared.LabelEntry.{LabelEntry}
 use Rattle.relocate.specs.declared.Layout.{Layout}
 use Rattle.relocate_rows.specs.declared.Progress.{Progress}
-use Rattle.relocate_rows.specs.declared.EntryFound.{EntryFound}
-use Rattle.relocate_rows.specs.declared.EntryFound.TheVariants.{Is, Nothing}
 use Rattle.relocate_rows.specs.Entries.{label_entry, entry_of_row, after}
 use Rattle.relocate_entries.specs.declared.Walk.{Walk}
 use Rattle.relocate_entries.specs.declared.LabelStep.{LabelStep}
@@ -23,10 +20,10 @@ pub record WalkFits (s : List ℕ) (l : Layout) (w : Walk) : Type 0 where
   pub address : w.progress.address ≤ 3 * w.at
 
 -- the entry that a line has, and how far the walk has come after it
-abbrev pub entry_in : ℕ → Progress → LineRead → EntryFound
-entry_in t p Blank = Nothing
+abbrev pub entry_in : ℕ → Progress → LineRead → Option LabelEntry
+entry_in t p Blank = None
 entry_in t p (Row r) = entry_of_row t p r
-entry_in t p Unreadable = Nothing
+entry_in t p Unreadable = None
 
 abbrev pub after_line : Progress → LineRead → Progress
 after_line p Blank = p
@@ -37,9 +34,9 @@ abbrev pub step_at : LabelEntry → Progress → ℕ → LabelStep
 step_at e p at = record { entry = e; walk = record { progress = p; at = at } }
 
 -- an entry that was found, or what comes after the line
-abbrev pub or_later : EntryFound → Progress → ℕ → LabelStep → LabelStep
-or_later (Is e) p at later = step_at e p at
-or_later Nothing p at later = later
+abbrev pub or_later : Option LabelEntry → Progress → ℕ → LabelStep → LabelStep
+or_later (Some e) p at later = step_at e p at
+or_later None p at later = later
 
 -- the next label row among the next n lines; an entry of nothing where there is none
 unfoldable pub label_step_in : ℕ → List ℕ → Layout → Progress → ℕ → LabelStep
@@ -67,12 +64,3 @@ Fillable s l n = (i : ℕ) → i < n → WalkFits s l (walk_at s l i)
 unfoldable pub entries_filled : List ℕ → Layout → List LabelEntry → ℕ → List LabelEntry
 entries_filled s l table zero = table
 entries_filled s l table (suc n) = set (entries_filled s l table n) n (label_step s l (walk_at s l n)).entry
-
--- the layout of a measured source, and how many entries its table has; none on a refusal
-abbrev pub layout_in : Answer Layout → Layout
-layout_in (ok l) = l
-layout_in (refused n d) = record { labels = 0; instructions = 0; counted = 0; words = 0; start = 0; end = 0 }
-
-abbrev pub rows_in : Answer Layout → ℕ
-rows_in (ok l) = l.labels
-rows_in (refused n d) = 0

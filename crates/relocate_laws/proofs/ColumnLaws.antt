@@ -1,9 +1,9 @@
 -- The label table as columns: the row that holds a name is the same by the table as by the sorted rows, and columns hold the table's entries.
+use Rattle.std.specs.Prelude.{Option, Some, None}
 use Prim.Native.Nat.{ℕ, suc}
 use mathlib.Core.Path.{◌≡◌, refl, ap, ◌∙◌}
 use mathlib.Core.List.{List, [], ◌∷◌, map}
 use mathlib.Core.Bool.{Bool, true, false, ◌&&◌, cond}
-use mathlib.Core.Option.{Option, none, some}
 use native.Mathlib.Omega.{arith}
 use borrow.Author.Tests.{eqb-true}
 use lib.Dec.{eqb}
@@ -20,15 +20,14 @@ use Rattle.relocate.specs.Prophets.{listed_labels, host_found, hosts_from}
 use Rattle.relocate.specs.Relocate.{hosts_of}
 use Rattle.relocate.specs.Columns.{kind_of, mapped_of, start_of, length_of, address_in, entries_of, later_address, held_address, looked_in, held_host, held_hosts_from, held_hosts}
 use Rattle.relocate.specs.declared.LabelEntry.{LabelEntry}
-use Rattle.relocate.specs.declared.AddressFound.{AddressFound}
-use Rattle.relocate.specs.declared.AddressFound.TheVariants.{At, Nothing}
+use Rattle.relocate.specs.declared.WordAddress.{WordAddress}
 
 -- ---- the row that holds a name
 
 -- the address of a row that was found
-abbrev pub found_by : (LabelRow → ℕ) → Option LabelRow → AddressFound
-found_by f (some l) = At (record { 0 = f l })
-found_by f none = Nothing
+abbrev pub found_by : (LabelRow → ℕ) → Option LabelRow → Option WordAddress
+found_by f (Some l) = Some (record { 0 = f l })
+found_by f None = None
 
 -- the rows that have a name are mapped and of its kind
 pub names_told : (s : List ℕ) (kind : ℕ) (x : List ℕ) (l : LabelRow) → names s kind x l ≡ true → (l.mapped ≡ true) × (eqb l.kind kind ≡ true)
@@ -46,11 +45,11 @@ module _ (s : List ℕ) (kind : ℕ) (x : List ℕ) (is : List OlaAsmInstruction
   held_rows [] = refl
   held_rows (l ∷ ls) = go (names s kind x l) refl (held_address s kind x (map (entry_of is) ls)) (holder s kind x ls) (held_rows ls)
     where
-      go : (t : Bool) → names s kind x l ≡ t → (a : AddressFound) (o : Option LabelRow) → a ≡ found_by f o
-          → later_address a (cond t (At (record { 0 = marked_address is l })) Nothing) ≡ found_by f (later_or o (cond t (some l) none))
-      go t e a (some m) h = ap (λ (b : AddressFound). later_address b (cond t (At (record { 0 = marked_address is l })) Nothing)) h
-      go true e a none h = rw h (ap (λ (n : ℕ). At (record { 0 = n })) (agrees l e))
-      go false e a none h = rw h
+      go : (t : Bool) → names s kind x l ≡ t → (a : Option WordAddress) (o : Option LabelRow) → a ≡ found_by f o
+          → later_address a (cond t (Some (record { 0 = marked_address is l })) None) ≡ found_by f (later_or o (cond t (Some l) None))
+      go t e a (Some m) h = ap (λ (b : Option WordAddress). later_address b (cond t (Some (record { 0 = marked_address is l })) None)) h
+      go true e a None h = rw h (ap (λ (n : ℕ). Some (record { 0 = n })) (agrees l e))
+      go false e a None h = rw h
 
 module _ (s : List ℕ) (x : List ℕ) (rows : List AsmRow) where
   -- a call or `.LBL` name is found at the address that the row that holds it marks
@@ -81,8 +80,8 @@ held_hosts_from_lem s rows k (x ∷ xs) = rw (held_prophet s x rows) (go (holder
     go : (o : Option LabelRow) → held_hosts_from (looked_in s (table_of rows)) (suc k) xs ≡ hosts_from s rows (suc k) xs
         → (held_host k (found_by (λ l. host_of (instructions rows) l.marks) o) >>= λ h. held_hosts_from (looked_in s (table_of rows)) (suc k) xs >>= λ hs. ok (h ∷ hs))
         ≡ (host_found (instructions rows) k o >>= λ h. hosts_from s rows (suc k) xs >>= λ hs. ok (h ∷ hs))
-    go none e = refl
-    go (some l) e = ap (λ (a : Answer (List ℕ)). a >>= λ hs. ok (host_of (instructions rows) l.marks ∷ hs)) e
+    go None e = refl
+    go (Some l) e = ap (λ (a : Answer (List ℕ)). a >>= λ hs. ok (host_of (instructions rows) l.marks ∷ hs)) e
 
 -- refusals 8 and 9 and the hosts by the label table are those by the sorted rows
 pub held_hosts_lem : (s : List ℕ) (rows : List AsmRow) (list : List ℕ) → held_hosts (looked_in s (table_of rows)) list ≡ hosts_of s rows list

@@ -1,4 +1,5 @@
 -- What a source of at most 65,536 bytes can hold: its bytes, its instructions, their addresses, and what is true of each of them.
+use Rattle.std.specs.Prelude.{Option, Some, None}
 use Prim.Native.Nat.{ℕ, suc, ◌+◌, ◌*◌, ◌<◌, ◌≤◌}
 use mathlib.Core.Path.{◌≡◌, ap, subst, ◌∙◌}
 use mathlib.Core.List.{List, [], ◌∷◌, map}
@@ -19,8 +20,6 @@ use Rattle.asm.specs.declared.OlaAsmOperand.TheVariants.{Empty, ImmediateOperand
 use Rattle.asm.specs.declared.OlaAsmInstruction.{OlaAsmInstruction}
 use Rattle.asm.specs.declared.AsmRow.{AsmRow}
 use Rattle.asm.specs.declared.AsmRow.TheVariants.{Instruction, LabelCall, LabelJmp, LabelProphet}
-use Rattle.asm.specs.declared.RowRead.{RowRead}
-use Rattle.asm.specs.declared.RowRead.TheVariants.{Is, Unreadable}
 use Rattle.asm_laws.proofs.LengthLaws.{row_bytes, source_bytes, least_bytes, least_four, BareIsEmpty, row_least, row_bare}
 use Rattle.relocate.specs.Scopes.{sorted_rows}
 use Rattle.relocate.specs.Labels.{label_rows, address_of}
@@ -32,11 +31,11 @@ use Rattle.relocate_laws.proofs.SortLaws.{sorted_total, sorted_all}
 -- each row and the pieces that it was read from
 pub data ReadAs : List (List Part) → List AsmRow → Type 0 where
   none_read : ReadAs [] []
-  one_read : {ps : List Part} {pss : List (List Part)} {r : AsmRow} {rs : List AsmRow} → row_of ps ≡ Is r → ReadAs pss rs → ReadAs (ps ∷ pss) (r ∷ rs)
+  one_read : {ps : List Part} {pss : List (List Part)} {r : AsmRow} {rs : List AsmRow} → row_of ps ≡ Some r → ReadAs pss rs → ReadAs (ps ∷ pss) (r ∷ rs)
 
-row_is : (k : ℕ) (x : RowRead) (r : AsmRow) → row_read k x ≡ ok r → x ≡ Is r
-row_is k (Is q) r h = ap Is (ok_same h)
-row_is k Unreadable r h = absurd (not_ok h)
+row_is : (k : ℕ) (x : Option AsmRow) (r : AsmRow) → row_read k x ≡ ok r → x ≡ Some r
+row_is k (Some q) r h = ap Some (ok_same h)
+row_is k None r h = absurd (not_ok h)
 
 pub rows_read_as : (k : ℕ) (pss : List (List Part)) (rs : List AsmRow) → read_rows k pss ≡ ok rs → ReadAs pss rs
 unfolding read_rows
@@ -80,13 +79,13 @@ tabled_sorted s room rows h =
 
 -- ---- every instruction
 
-module _ (P : OlaAsmInstruction → Type 0) (f : (ps : List Part) (i : OlaAsmInstruction) → row_of ps ≡ Is (Instruction i) → P i) where
+module _ (P : OlaAsmInstruction → Type 0) (f : (ps : List Part) (i : OlaAsmInstruction) → row_of ps ≡ Some (Instruction i) → P i) where
   read_all : {pss : List (List Part)} {rs : List AsmRow} → ReadAs pss rs → All P (instructions rs)
   unfolding instructions
   read_all none_read = none_left
   read_all (one_read {ps = ps} {r = r} {rs = rs} e h) = go r e (read_all h)
     where
-      go : (r : AsmRow) → row_of ps ≡ Is r → All P (instructions rs) → All P (instructions (r ∷ rs))
+      go : (r : AsmRow) → row_of ps ≡ Some r → All P (instructions rs) → All P (instructions (r ∷ rs))
       go (Instruction i) e k = one_more (f ps i e) k
       go (LabelCall start n) e k = k
       go (LabelJmp start n) e k = k
@@ -112,7 +111,7 @@ unfolding instructions total
 read_bytes none_read = omega arith
 read_bytes (one_read {ps = ps} {pss = pss} {r = r} {rs = rs} e h) = go r e (read_bytes h)
   where
-    go : (r : AsmRow) → row_of ps ≡ Is r → total (map least_of (instructions rs)) ≤ total (map row_bytes pss)
+    go : (r : AsmRow) → row_of ps ≡ Some r → total (map least_of (instructions rs)) ≤ total (map row_bytes pss)
         → total (map least_of (instructions (r ∷ rs))) ≤ total (map row_bytes (ps ∷ pss))
     go (Instruction i) e k = let b = row_least ps i e in omega arith
     go (LabelCall start n) e k = omega arith

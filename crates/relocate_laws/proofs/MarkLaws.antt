@@ -1,9 +1,9 @@
 -- A label row that is mapped marks an instruction that is there, and so does the row that holds a name.
+use Rattle.std.specs.Prelude.{Option, Some, None}
 use Prim.Native.Nat.{ℕ, suc, ◌+◌, ◌<◌}
 use mathlib.Core.Path.{◌≡◌, refl, subst}
 use mathlib.Core.List.{List, [], ◌∷◌}
 use mathlib.Core.Bool.{Bool, true, false, not, cond, false≢true}
-use mathlib.Core.Option.{Option, none, some, some-injective, none-ne-some}
 use native.Mathlib.Omega.{arith}
 use lib.ListN.{length}
 use Rattle.text.specs.Scan.{is_empty}
@@ -14,6 +14,7 @@ use Rattle.asm.specs.declared.AsmRow.{AsmRow}
 use Rattle.asm.specs.declared.AsmRow.TheVariants.{Instruction, LabelCall, LabelJmp, LabelProphet}
 use Rattle.relocate.specs.Labels.{LabelRow, label_rows, names, later_or, holder}
 use Rattle.relocate_laws.proofs.ColumnLaws.{names_told}
+use Rattle.std.proofs.lemmas.Option.{none-some, same_Some}
 
 -- a row that marks one of m instructions, if it is mapped
 abbrev pub MarksBelow : ℕ → LabelRow → Type 0
@@ -34,12 +35,12 @@ rows_mark n (LabelJmp start k ∷ rs) = one_more (next_below n (instructions rs)
 rows_mark n (LabelProphet start k ∷ rs) = one_more (next_below n (instructions rs)) (rows_mark n rs)
 
 -- the row that holds a name is mapped
-pub holder_marks : (s : List ℕ) (kind : ℕ) (x : List ℕ) (m : ℕ) (ls : List LabelRow) → All (MarksBelow m) ls → (l : LabelRow) → holder s kind x ls ≡ some l → l.marks < m
+pub holder_marks : (s : List ℕ) (kind : ℕ) (x : List ℕ) (m : ℕ) (ls : List LabelRow) → All (MarksBelow m) ls → (l : LabelRow) → holder s kind x ls ≡ Some l → l.marks < m
 unfolding holder
-holder_marks s kind x m [] a l e = absurd (none-ne-some l e)
+holder_marks s kind x m [] a l e = absurd (none-some l e)
 holder_marks s kind x m (k ∷ ks) (one_more h hs) l e = go (holder s kind x ks) (names s kind x k) refl (holder_marks s kind x m ks hs l) e
   where
-    go : (o : Option LabelRow) (t : Bool) → names s kind x k ≡ t → (o ≡ some l → l.marks < m) → later_or o (cond t (some k) none) ≡ some l → l.marks < m
-    go (some j) t g r e = r e
-    go none true g r e = subst (λ (i : LabelRow). i.marks < m) (some-injective k l e) (h (names_told s kind x k g).0)
-    go none false g r e = absurd (none-ne-some l e)
+    go : (o : Option LabelRow) (t : Bool) → names s kind x k ≡ t → (o ≡ Some l → l.marks < m) → later_or o (cond t (Some k) None) ≡ Some l → l.marks < m
+    go (Some j) t g r e = r e
+    go None true g r e = subst (λ (i : LabelRow). i.marks < m) (same_Some k l e) (h (names_told s kind x k g).0)
+    go None false g r e = absurd (none-some l e)

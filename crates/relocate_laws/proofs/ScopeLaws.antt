@@ -1,4 +1,5 @@
 -- Main's scope among the rows of a source: the rows before it, its own and those after it; sorted, its own come first.
+use Rattle.std.specs.Prelude.{Option, Some, None}
 use Prim.Native.Nat.{ℕ, suc}
 use mathlib.Core.Path.{◌≡◌, refl, sym, ap, ◌∙◌}
 use mathlib.Core.List.{List, [], ◌∷◌, ◌++◌, append-nil, append_assoc}
@@ -12,8 +13,6 @@ use Rattle.asm.specs.Rows.{instructions}
 use Rattle.asm.specs.Survey.{is_label_row, is_main_row, count_rows, first_call, main_start, main_end}
 use Rattle.asm.specs.declared.AsmRow.{AsmRow}
 use Rattle.asm.specs.declared.AsmRow.TheVariants.{Instruction, LabelCall, LabelJmp, LabelProphet}
-use Rattle.asm.specs.declared.PlaceFound.{PlaceFound}
-use Rattle.asm.specs.declared.PlaceFound.TheVariants.{At, Nothing}
 use Rattle.asm_laws.proofs.JoinLaws.{count_append}
 use Rattle.relocate.specs.Scopes.{Scope, Cut, in_front, cut_at_calls, scopes_of, is_main, is_other, scopes_that, rows_of_scopes, sorted_rows, main_count}
 use Rattle.relocate.specs.Labels.{label_rows}
@@ -102,9 +101,9 @@ module _ (s : List ℕ) where
 -- ---- main's scope
 
 -- where a scope ends and what follows it: at a call label, or at the end of the rows
-pub data Ends : PlaceFound → List AsmRow → Type 0 where
-  at_call : (place n : ℕ) (rs : List AsmRow) → Ends (At place) (LabelCall place n ∷ rs)
-  at_end : Ends Nothing []
+pub data Ends : Option ℕ → List AsmRow → Type 0 where
+  at_call : (place n : ℕ) (rs : List AsmRow) → Ends (Some place) (LabelCall place n ∷ rs)
+  at_end : Ends None []
 
 -- the scopes begin at the first call label
 first_ends : (s : List ℕ) (rs : List AsmRow) → Ends (first_call rs) (rows_of_scopes (cut_at_calls s rs).scopes)
@@ -123,7 +122,7 @@ pub record MainCut (s : List ℕ) (rs : List AsmRow) : Type 0 where
   pub within : List AsmRow
   pub after : List AsmRow
   pub whole : rs ≡ before ++ (LabelCall place size ∷ within ++ after)
-  pub begins : main_start s rs ≡ At place
+  pub begins : main_start s rs ≡ Some place
   pub ends : Ends (main_end s rs) after
   pub mains : rows_of_scopes (scopes_that is_main (cut_at_calls s rs).scopes) ≡ LabelCall place size ∷ within
   pub others : (cut_at_calls s rs).ahead ++ rows_of_scopes (scopes_that is_other (cut_at_calls s rs).scopes) ≡ before ++ after

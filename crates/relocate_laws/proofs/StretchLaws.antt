@@ -1,9 +1,9 @@
 -- The sorted rows are the rows of three stretches of the source: main's, what stands before it, what stands after it.
+use Rattle.std.specs.Prelude.{Option, Some, None}
 use Prim.Native.Nat.{ℕ, suc, ◌<◌, ◌≤◌}
 use mathlib.Core.Path.{◌≡◌, refl, sym, ap, subst, ◌∙◌}
 use mathlib.Core.List.{List, [], ◌∷◌, ◌++◌, append-nil, append_assoc, map}
 use mathlib.Core.Bool.{Bool, true, false}
-use mathlib.Core.Option.{Option, none, some}
 use native.Mathlib.Omega.{arith}
 use borrow.Author.Tests.{ltb-false, eqb-false, ne_eqb}
 use lib.Dec.{eqb, ltb}
@@ -18,7 +18,6 @@ use Rattle.asm.specs.Rows.{read_rows, instructions, counted_length}
 use Rattle.asm.specs.Survey.{word_count, is_main_row, count_rows, main_start, main_end, tally_of, survey_from, survey_of}
 use Rattle.asm.specs.declared.AsmRow.{AsmRow}
 use Rattle.asm.specs.declared.AsmRow.TheVariants.{LabelCall}
-use Rattle.asm.specs.declared.PlaceFound.{PlaceFound}
 use Rattle.asm.specs.declared.Tally.{Tally}
 use Rattle.relocate.specs.Scopes.{sorted_rows, main_count}
 use Rattle.relocate.specs.Labels.{label_rows}
@@ -68,7 +67,7 @@ module _ (s : List ℕ) (rows : List AsmRow) (read : ReadAs (source_pieces s) ro
   laid : Laid s (place_or 0 (main_start s rows)) (place_or (length s) (main_end s rows)) (sorted_rows s rows)
   laid = rw w.begins (go w.ends refl cut_main)
     where
-      go : {p : PlaceFound} {after : List AsmRow} → Ends p after → w.after ≡ after → CallCut s 0 w.place w.before (main ++ w.after)
+      go : {p : Option ℕ} {after : List AsmRow} → Ends p after → w.after ≡ after → CallCut s 0 w.place w.before (main ++ w.after)
           → Laid s w.place (place_or (length s) p) (sorted_rows s rows)
       go (at_call end n rs) e c =
           let d = read_parted s w.place main end n rs (subst (λ (l : List AsmRow). ReadAs (pieces_after s w.place) (main ++ l)) e c.back) in
@@ -130,9 +129,9 @@ module _ (s : List ℕ) where
           → ((refuse_if a 1 >> (refuse_at b 2 >> x)) >>= sorted_after s)
           ≡ ((refuse_if a 1 >> (refuse_at b 2 >> ((x >>= λ rs. ok (tally_of s rs)) >>= laid_after s))) >>= λ l. ok (layout_rows s l))
       go true b x f = refl
-      go false (some d) x f = refl
-      go false none (refused n d) f = refl
-      go false none (ok rows) f = after_read rows (f rows refl)
+      go false (Some d) x f = refl
+      go false None (refused n d) f = refl
+      go false None (ok rows) f = after_read rows (f rows refl)
 
 -- ---- what an accepted layout says
 

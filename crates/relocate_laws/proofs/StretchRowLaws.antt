@@ -1,9 +1,9 @@
 -- The rows of a stretch of the source, line by line, and where they are cut at a call label.
+use Rattle.std.specs.Prelude.{Option, Some, None}
 use Prim.Native.Nat.{ℕ, ◌-◌, ◌<◌, ◌≤◌}
 use mathlib.Core.Path.{◌≡◌, refl, sym, ap, subst, ◌∙◌}
 use mathlib.Core.List.{List, [], ◌∷◌, ◌++◌}
 use mathlib.Core.Bool.{Bool, true, false, cond}
-use mathlib.Core.Option.{none, some}
 use native.Mathlib.Omega.{arith}
 use borrow.Author.Tests.{ltb-true, ltb-false}
 use lib.Dec.{ltb}
@@ -14,8 +14,6 @@ use Rattle.asm.specs.Parts.{Part, line_pieces, pieces_after, line_at, next_line}
 use Rattle.asm.specs.Rows.{operands_of, arranged_if, is_call_row, is_pair_row, label_row, or_else_row, row_of, line_of}
 use Rattle.asm.specs.declared.AsmRow.{AsmRow}
 use Rattle.asm.specs.declared.AsmRow.TheVariants.{Instruction, LabelCall, LabelJmp, LabelProphet}
-use Rattle.asm.specs.declared.RowRead.{RowRead}
-use Rattle.asm.specs.declared.RowRead.TheVariants.{Is, Unreadable}
 use Rattle.asm.specs.declared.LineRead.TheVariants.{Blank, Row, Unreadable as NoRow}
 use Rattle.asm_laws.proofs.StepLaws.{pieces_step, pieces_row, line_blank, line_row, line_unreadable}
 use Rattle.asm_laws.proofs.PlaceLaws.{arranged_if_related}
@@ -40,14 +38,14 @@ module _ (s : List ℕ) (i : ℕ) where
   unfolding readable
   stretch_row r h =
       let w = line_row (line_pieces (line_at s i)) r h in
-      ap readable (pieces_row s i w.0) ∙ ap (λ (x : RowRead). on_read x (stretch_rows s (next_line s i))) w.1
+      ap readable (pieces_row s i w.0) ∙ ap (λ (x : Option AsmRow). on_read x (stretch_rows s (next_line s i))) w.1
 
   -- an unreadable line is left out
   pub stretch_unreadable : line_of (line_pieces (line_at s i)) ≡ NoRow → stretch_rows s i ≡ stretch_rows s (next_line s i)
   unfolding readable
   stretch_unreadable h =
       let w = line_unreadable (line_pieces (line_at s i)) h in
-      ap readable (pieces_row s i w.0) ∙ ap (λ (x : RowRead). on_read x (stretch_rows s (next_line s i))) w.1
+      ap readable (pieces_row s i w.0) ∙ ap (λ (x : Option AsmRow). on_read x (stretch_rows s (next_line s i))) w.1
 
 -- ---- rows that were read
 
@@ -58,12 +56,12 @@ read_readable none_read = refl
 read_readable (one_read e h) = rw (e, read_readable h)
 
 -- a label row that starts at place k, if it is one
-abbrev StartsAt : ℕ → RowRead → Type 0
-StartsAt k (Is (Instruction i)) = Unit {0}
-StartsAt k (Is (LabelCall start n)) = k ≡ start
-StartsAt k (Is (LabelJmp start n)) = k ≡ start
-StartsAt k (Is (LabelProphet start n)) = k ≡ start
-StartsAt k Unreadable = Unit {0}
+abbrev StartsAt : ℕ → Option AsmRow → Type 0
+StartsAt k (Some (Instruction i)) = Unit {0}
+StartsAt k (Some (LabelCall start n)) = k ≡ start
+StartsAt k (Some (LabelJmp start n)) = k ≡ start
+StartsAt k (Some (LabelProphet start n)) = k ≡ start
+StartsAt k None = Unit {0}
 
 -- a label row starts where its first piece does
 label_starts : (q : Part) (qs : List Part) → StartsAt q.start (row_of (q ∷ qs))
@@ -72,14 +70,14 @@ label_starts q (r ∷ rs) = arranged_if_related 0 (λ x y. StartsAt q.start x) t
 label_starts q [] =
     go (is_call_row q.text) (is_pair_row (bytes "LBL") q.text) (is_pair_row (bytes "PROPHET") q.text) q.start (length q.text - 1)
   where
-    other : RowRead
-    other = arranged_if (operation_of q.text) (some [])
+    other : Option AsmRow
+    other = arranged_if (operation_of q.text) (Some [])
 
-    go : (a b c : Bool) (i k : ℕ) → StartsAt i (or_else_row (cond a (some (LabelCall i k)) (cond b (some (LabelJmp i k)) (cond c (some (LabelProphet i k)) none))) other)
+    go : (a b c : Bool) (i k : ℕ) → StartsAt i (or_else_row (cond a (Some (LabelCall i k)) (cond b (Some (LabelJmp i k)) (cond c (Some (LabelProphet i k)) None))) other)
     go true b c i k = refl
     go false true c i k = refl
     go false false true i k = refl
-    go false false false i k = arranged_if_related 0 (λ x y. StartsAt i x) tt (λ i. tt) (operation_of q.text) (some [])
+    go false false false i k = arranged_if_related 0 (λ x y. StartsAt i x) tt (λ i. tt) (operation_of q.text) (Some [])
 
 -- a text cut at a call label: the rows before it, and those from it on
 pub record CallCut (s : List ℕ) (i p : ℕ) (rs qs : List AsmRow) : Type 0 where
@@ -95,7 +93,7 @@ record ReadCut (pss : List (List Part)) (rs : List AsmRow) (r : AsmRow) (qs : Li
   after : List (List Part)
   whole : pss ≡ before ++ pieces ∷ after
   front : ReadAs before rs
-  read : row_of pieces ≡ Is r
+  read : row_of pieces ≡ Some r
   back : ReadAs after qs
 
 -- rows that were read are cut at any of them
@@ -120,9 +118,9 @@ unfolding row_of
 read_parted s i rs p n qs h = let w = read_cut rs (LabelCall p n) qs h in go w w.pieces refl
   where
     go : (w : ReadCut (pieces_after s i) rs (LabelCall p n) qs) (ps : List Part) → w.pieces ≡ ps → CallCut s i p rs (LabelCall p n ∷ qs)
-    go w [] e = let z : Unreadable ≡ Is (LabelCall p n) = ap row_of (sym e) ∙ w.read in let y : ◌≡◌ {A = ℕ} 0 1 = cc in absurd (omega arith)
+    go w [] e = let z : None ≡ Some (LabelCall p n) = ap row_of (sym e) ∙ w.read in let y : ◌≡◌ {A = ℕ} 0 1 = cc in absurd (omega arith)
     go w (q ∷ ps) e =
-        let r : row_of (q ∷ ps) ≡ Is (LabelCall p n) = ap row_of (sym e) ∙ w.read in
+        let r : row_of (q ∷ ps) ≡ Some (LabelCall p n) = ap row_of (sym e) ∙ w.read in
         let a : q.start ≡ p = subst (StartsAt q.start) r (label_starts q ps) in
         let c = cut_pieces s i w.before q ps w.after (w.whole ∙ ap (λ (l : List Part). w.before ++ l ∷ w.after) e) in
         subst (λ (k : ℕ). CallCut s i k rs (LabelCall p n ∷ qs)) a

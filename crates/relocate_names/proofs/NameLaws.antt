@@ -1,4 +1,5 @@
 -- Names as parts of a source, and the search for the row that holds one, from the table's last entry backwards.
+use Rattle.std.specs.Prelude.{Option, Some, None}
 use Prim.Native.Nat.{ℕ, zero, suc, ◌+◌, ◌-◌, ◌<◌, ◌≤◌}
 use mathlib.Core.Path.{◌≡◌, refl, sym, ap, ◌∙◌}
 use mathlib.Core.List.{List, [], ◌∷◌, ◌++◌}
@@ -7,18 +8,14 @@ use native.Mathlib.Omega.{arith}
 use native.Mathlib.Nat.{suc-min-suc}
 use borrow.Author.Rules.{rules}
 use borrow.Author.Tests.{eq-eqb, ne_eqb}
-use denote.Ref.{Bor}
-use lib.ListN.{length, get_or, take, drop, length-drop}
-use lib.Seq.{take-suc, take_all, length-take-le}
+use lib.ListN.{length, get_or, take, drop}
+use lib.Seq.{take-suc, take_all}
 use Rattle.text.specs.Bytes.{same}
-use Rattle.asm.specs.Parts.{name_part, bytes_in, name_at}
+use Rattle.asm.specs.Parts.{bytes_in, name_at}
 use Rattle.asm.proofs.SpanLaws.{span_past, span_long, span_within}
 use Rattle.relocate.specs.Columns.{entries_of, entry_names, later_address, held_address}
 use Rattle.relocate.specs.declared.WordAddress.{WordAddress}
 use Rattle.relocate.specs.declared.LabelEntry.{LabelEntry}
-use Rattle.relocate.specs.declared.AddressFound.{AddressFound}
-use Rattle.relocate.specs.declared.AddressFound.TheVariants.{At, Nothing}
-use Rattle.relocate_names.specs.References.{part_of}
 use Rattle.relocate_names.specs.Shortest.{shortest_of}
 
 -- ---- a name as a part of a source
@@ -39,30 +36,7 @@ module _ (s : List ℕ) (start n : ℕ) where
   unfolding name_at
   name_within h k = let e : start + n - start ≡ n = omega arith in rw e (ap (bytes_in s) (span_within s start n h k))
 
-module _ (s : Bor (List ℕ)) (start n : ℕ) where
-  -- the empty part is the code's `&s[0..0]`
-  pub part_past : length s.now < start → part_of s (record { start = 0; length = 0 }) ≡ part_of s (name_part s.now start n)
-  part_past h = ap (part_of s) (span_past s.now start n h)
-
-  pub part_long : start ≤ length s.now → length s.now - start < n → part_of s (record { start = 0; length = 0 }) ≡ part_of s (name_part s.now start n)
-  part_long h k = ap (part_of s) (span_long s.now start n h k)
-
-  -- any other points to the entry's start and is as long as the entry says
-  pub part_within : start ≤ length s.now → n ≤ length s.now - start
-      → part_of s (record { start = start; length = length (take (start + n - start) (drop start s.now)) }) ≡ part_of s (name_part s.now start n)
-  part_within h k =
-      let d = length-drop start s.now in
-      let l = length-take-le (start + n - start) (drop start s.now) (omega arith) in
-      let e : length (take (start + n - start) (drop start s.now)) ≡ n = omega arith in
-      ap (λ (m : ℕ). part_of s (record { start = start; length = m })) e ∙ ap (part_of s) (span_within s.now start n h k)
-
-pub ruleset name_laws = (name_past, name_long, name_within, part_past, part_long, part_within, rules)
-
--- what was compared with a part that is the name was compared with the name
-pub name_same : (p q x : List ℕ) (r : Bool) → p ≡ q → r ≡ same p x → r ≡ same q x
-name_same p q x r e f = f ∙ ap (λ (l : List ℕ). same l x) e
-
-pub ruleset same_laws = (name_same, rules)
+pub ruleset name_laws = (name_past, name_long, name_within, rules)
 
 -- ---- the entries of five columns
 
@@ -99,18 +73,18 @@ entries_at (k ∷ ks) (m ∷ ms) (s ∷ ss) (l ∷ ls) (n ∷ as') (suc i) a b c
 
 -- the last entry holds the name if it has it
 pub held_last : (s : List ℕ) (kind : ℕ) (x : List ℕ) (es : List LabelEntry) (e : LabelEntry)
-    → held_address s kind x (es ++ e ∷ []) ≡ later_address (cond (entry_names s kind x e) (At e.address) Nothing) (held_address s kind x es)
+    → held_address s kind x (es ++ e ∷ []) ≡ later_address (cond (entry_names s kind x e) (Some e.address) None) (held_address s kind x es)
 unfolding held_address
-held_last s kind x [] e = go (cond (entry_names s kind x e) (At e.address) Nothing)
+held_last s kind x [] e = go (cond (entry_names s kind x e) (Some e.address) None)
   where
-    go : (a : AddressFound) → later_address Nothing a ≡ later_address a Nothing
-    go (At w) = refl
-    go Nothing = refl
-held_last s kind x (f ∷ es) e = rw (held_last s kind x es e) (go (cond (entry_names s kind x e) (At e.address) Nothing) (held_address s kind x es) (cond (entry_names s kind x f) (At f.address) Nothing))
+    go : (a : Option WordAddress) → later_address None a ≡ later_address a None
+    go (Some w) = refl
+    go None = refl
+held_last s kind x (f ∷ es) e = rw (held_last s kind x es e) (go (cond (entry_names s kind x e) (Some e.address) None) (held_address s kind x es) (cond (entry_names s kind x f) (Some f.address) None))
   where
-    go : (a b c : AddressFound) → later_address (later_address a b) c ≡ later_address a (later_address b c)
-    go (At w) b c = refl
-    go Nothing b c = refl
+    go : (a b c : Option WordAddress) → later_address (later_address a b) c ≡ later_address a (later_address b c)
+    go (Some w) b c = refl
+    go None b c = refl
 
 module _ (s : List ℕ) (kind : ℕ) (x ks : List ℕ) (ms : List Bool) (ss ls as' : List ℕ) where
   abbrev entries : List LabelEntry
@@ -123,11 +97,11 @@ module _ (s : List ℕ) (kind : ℕ) (x ks : List ℕ) (ms : List Bool) (ss ls a
       let l = entries_length ks ms ss ls as' in
       ap (held_address s kind x) (sym (take_all n entries (omega arith)))
 
-  module _ (i : ℕ) (a : 0 < i) (b : i ≤ length ks) (c : i ≤ length ms) (d : i ≤ length ss) (f : i ≤ length ls) (g : i ≤ length as')
+  module _ (n : ℕ) (m : n ≡ shortest_of (length ks) (length ms) (length ss) (length ls) (length as')) (i : ℕ) (a : 0 < i) (b : i ≤ n)
       (k : held_address s kind x (entries_of ks ms ss ls as') ≡ held_address s kind x (take i (entries_of ks ms ss ls as'))) where
     -- the entry in front of the place reached
     turn : (t : Bool) → entry_names s kind x (entry_at ks ms ss ls as' (i - 1)) ≡ t
-        → held_address s kind x entries ≡ later_address (cond t (At (record { 0 = get_or as' (i - 1) 0 })) Nothing) (held_address s kind x (take (i - 1) entries))
+        → held_address s kind x entries ≡ later_address (cond t (Some (record { 0 = get_or as' (i - 1) 0 })) None) (held_address s kind x (take (i - 1) entries))
     turn t h =
         let l = entries_length ks ms ss ls as' in
         let j : i ≡ suc (i - 1) = omega arith in
@@ -146,21 +120,21 @@ module _ (s : List ℕ) (kind : ℕ) (x ks : List ℕ) (ms : List Bool) (ss ls a
       pub held_other : (get_or ks (i - 1) 0 ≡ kind → ⊥) → held_address s kind x (entries_of ks ms ss ls as') ≡ held_address s kind x (take (i - 1) (entries_of ks ms ss ls as'))
       held_other q = turn false (rw (h, ne_eqb _ _ q))
 
-      module _ (q : get_or ks (i - 1) 0 ≡ kind) (r : Bool) (n : r ≡ same (name_at s (get_or ss (i - 1) 0) (get_or ls (i - 1) 0)) x) where
+      module _ (q : get_or ks (i - 1) 0 ≡ kind) (r : Bool) (f : r ≡ same (name_at s (get_or ss (i - 1) 0) (get_or ls (i - 1) 0)) x) where
         -- whether it has the name is what the comparison told
         named : entry_names s kind x (entry_at ks ms ss ls as' (i - 1)) ≡ r
-        named = rw (h, eq-eqb _ _ q) (sym n)
+        named = rw (h, eq-eqb _ _ q) (sym f)
 
         -- nor if it has another name
         pub held_miss : r ≡ false → held_address s kind x (entries_of ks ms ss ls as') ≡ held_address s kind x (take (i - 1) (entries_of ks ms ss ls as'))
         held_miss e = turn false (named ∙ e)
 
         -- otherwise it does
-        pub held_hit : (w : WordAddress) → r ≡ true → w ≡ record { 0 = get_or as' (i - 1) 0 } → At w ≡ held_address s kind x (entries_of ks ms ss ls as')
-        held_hit w e v = ap At v ∙ sym (turn true (named ∙ e))
+        pub held_hit : (w : WordAddress) → r ≡ true → w ≡ record { 0 = get_or as' (i - 1) 0 } → Some w ≡ held_address s kind x (entries_of ks ms ss ls as')
+        held_hit w e v = ap Some v ∙ sym (turn true (named ∙ e))
 
   -- in front of the first entry there is none
-  pub held_none : (i : ℕ) → i ≤ 0 → held_address s kind x (entries_of ks ms ss ls as') ≡ held_address s kind x (take i (entries_of ks ms ss ls as')) → Nothing ≡ held_address s kind x (entries_of ks ms ss ls as')
+  pub held_none : (i : ℕ) → i ≤ 0 → held_address s kind x (entries_of ks ms ss ls as') ≡ held_address s kind x (take i (entries_of ks ms ss ls as')) → None ≡ held_address s kind x (entries_of ks ms ss ls as')
   unfolding held_address
   held_none i h k = let e : i ≡ 0 = omega arith in sym (k ∙ rw e)
 

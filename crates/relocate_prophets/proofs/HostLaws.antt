@@ -1,8 +1,10 @@
 -- The hosts of a list's labels: counted one after another, and written one after another.
+use Rattle.std.specs.Prelude.{Option, Some, None, Result, Ok, Err}
 use Prim.Native.Nat.{ℕ, suc, ◌+◌, ◌-◌, ◌^◌, ◌<◌, ◌≤◌}
 use mathlib.Core.Path.{◌≡◌, refl, sym, ap, ◌∙◌}
 use mathlib.Core.List.{List, [], ◌∷◌}
-use mathlib.Core.Bool.{Bool, true, false}
+use mathlib.Core.Bool.{Bool, true, false, not, true≢false}
+use Rattle.std.specs.Option.{is_some}
 use native.Mathlib.Omega.{arith}
 use native.Mathlib.Nat.{zero-add, add-zero}
 use native.Mathlib.Numerals.{add-one}
@@ -20,20 +22,15 @@ use Rattle.text.specs.declared.Line.{Line}
 use Rattle.text.proofs.Laws.{scan_le}
 use Rattle.text.proofs.AnswerLaws.{not_ok, ok_same, ok_bind, sets_over}
 use Rattle.asm.specs.Parts.{next_line}
-use Rattle.asm.specs.declared.PlaceFound.{PlaceFound}
-use Rattle.asm.specs.declared.PlaceFound.TheVariants.{At as AtPlace, Nothing as NoPlace}
 use Rattle.asm_laws.proofs.StepLaws.{next_further}
 use Rattle.relocate.specs.Labels.{prophet_kind}
 use Rattle.relocate.specs.Prophets.{listed_labels}
 use Rattle.relocate.specs.Columns.{LookUp, held_host, held_hosts_from, held_hosts, host_count, listed_numbered, hosts_put}
 use Rattle.relocate.specs.declared.WordAddress.{WordAddress}
-use Rattle.relocate.specs.declared.AddressFound.{AddressFound}
-use Rattle.relocate.specs.declared.AddressFound.TheVariants.{At, Nothing}
 use Rattle.relocate.specs.declared.RelocateRefusal.TheVariants.{ProphetListMalformed, ProphetUnknown}
-use Rattle.relocate.specs.declared.ProphetsListed.{ProphetsListed}
-use Rattle.relocate.specs.declared.ProphetsListed.TheVariants.{Is, Refused}
 use Rattle.relocate_prophets.specs.Walk.{lines_from, line_from, labels_start, host_in, hosts_in, fits_in}
 use Rattle.relocate_prophets.proofs.LineLaws.{lines_end, lines_next, labels_found, listed_found}
+use Rattle.relocate.specs.declared.RelocateRefusal.{RelocateRefusal}
 
 -- ---- a line of the list
 
@@ -91,7 +88,7 @@ count_from (refused n d) = refl
 
 module _ (look : LookUp) (k : ℕ) (x : List ℕ) (xs : List (List ℕ)) where
   -- a label found counts one
-  count_found : (w : WordAddress) → look prophet_kind x ≡ At w → counted k (held_hosts_from look k (x ∷ xs)) ≡ counted (k + 1) (held_hosts_from look (k + 1) xs)
+  count_found : (w : WordAddress) → look prophet_kind x ≡ Some w → counted k (held_hosts_from look k (x ∷ xs)) ≡ counted (k + 1) (held_hosts_from look (k + 1) xs)
   unfolding held_hosts_from ◌>>=◌
   count_found w e = rw (e, add-one k) (go (held_hosts_from look (suc k) xs))
     where
@@ -100,7 +97,7 @@ module _ (look : LookUp) (k : ℕ) (x : List ℕ) (xs : List (List ℕ)) where
       go (refused n d) = refl
 
   -- one that is not found is the answer
-  count_unknown : look prophet_kind x ≡ Nothing → counted k (held_hosts_from look k (x ∷ xs)) ≡ refused 9 k
+  count_unknown : look prophet_kind x ≡ None → counted k (held_hosts_from look k (x ∷ xs)) ≡ refused 9 k
   unfolding held_hosts_from ◌>>=◌
   count_unknown e = rw e
 
@@ -110,24 +107,32 @@ module _ (look : LookUp) (list : List ℕ) (start : ℕ) where
   count_start = count_from (held_hosts_from look 0 (lines_from list start))
 
   module _ (k at : ℕ) (i : host_count (held_hosts_from look 0 (lines_from list start)) ≡ counted k (held_hosts_from look k (lines_from list at))) where
-    module _ (line : Line) (e : line ≡ line_from list at) (h : at < length list) (found : AddressFound) (f : found ≡ look 2 (take (at + line.length - at) (drop at list))) where
+    module _ (line : Line) (e : line ≡ line_from list at) (h : at < length list) (found : Option WordAddress) (f : found ≡ look 2 (take (at + line.length - at) (drop at list))) where
       -- a label that the table holds
-      pub count_more : (w : WordAddress) → found ≡ At w → host_count (held_hosts_from look 0 (lines_from list start)) ≡ counted (k + 1) (held_hosts_from look (k + 1) (lines_from list line.next))
-      count_more w g =
-          i
-          ∙ ap (λ (xs : List (List ℕ)). counted k (held_hosts_from look k xs)) (label_first list at line e h)
-          ∙ count_found look k (take (at + line.length - at) (drop at list)) (lines_from list line.next) w (sym f ∙ g)
+      pub count_more : (r : Bool) → is_some found ≡ not r → r ≡ false → host_count (held_hosts_from look 0 (lines_from list start)) ≡ counted (k + 1) (held_hosts_from look (k + 1) (lines_from list line.next))
+      count_more r n z = go found refl (n ∙ ap not z)
+        where
+          go : (a : Option WordAddress) → found ≡ a → is_some a ≡ true → host_count (held_hosts_from look 0 (lines_from list start)) ≡ counted (k + 1) (held_hosts_from look (k + 1) (lines_from list line.next))
+          go (Some w) g t =
+              i
+              ∙ ap (λ (xs : List (List ℕ)). counted k (held_hosts_from look k xs)) (label_first list at line e h)
+              ∙ count_found look k (take (at + line.length - at) (drop at list)) (lines_from list line.next) w (sym f ∙ g)
+          go None g t = absurd (true≢false (sym t))
 
       -- one that it does not hold
-      pub count_none : found ≡ Nothing → listed_numbered (Refused (ProphetUnknown k)) ≡ host_count (held_hosts_from look 0 (lines_from list start))
-      count_none g =
-          sym
-          (i
-          ∙ ap (λ (xs : List (List ℕ)). counted k (held_hosts_from look k xs)) (label_first list at line e h)
-          ∙ count_unknown look k (take (at + line.length - at) (drop at list)) (lines_from list line.next) (sym f ∙ g))
+      pub count_none : (r : Bool) → is_some found ≡ not r → r ≡ true → listed_numbered (Err (ProphetUnknown k)) ≡ host_count (held_hosts_from look 0 (lines_from list start))
+      count_none r n z = go found refl (n ∙ ap not z)
+        where
+          go : (a : Option WordAddress) → found ≡ a → is_some a ≡ false → listed_numbered (Err (ProphetUnknown k)) ≡ host_count (held_hosts_from look 0 (lines_from list start))
+          go (Some w) g t = absurd (true≢false t)
+          go None g t =
+              sym
+              (i
+              ∙ ap (λ (xs : List (List ℕ)). counted k (held_hosts_from look k xs)) (label_first list at line e h)
+              ∙ count_unknown look k (take (at + line.length - at) (drop at list)) (lines_from list line.next) (sym f ∙ g))
 
     -- the list's end
-    pub count_end : length list ≤ at → listed_numbered (Is k) ≡ host_count (held_hosts_from look 0 (lines_from list start))
+    pub count_end : length list ≤ at → listed_numbered (Ok k) ≡ host_count (held_hosts_from look 0 (lines_from list start))
     unfolding held_hosts_from ◌>>=◌
     count_end h = sym (i ∙ rw (lines_end list at h) (ap ok (add-zero k)))
 
@@ -135,42 +140,32 @@ pub ruleset count_laws = (label_laws, count_start, count_more, count_none, count
 
 -- ---- the list's head
 
-module _ (look : LookUp) (list : List ℕ) (p : PlaceFound) (e : p ≡ labels_start list) where
+module _ (look : LookUp) (list : List ℕ) (p : Option ℕ) (e : p ≡ labels_start list) where
   -- the labels by where they start
   listed_told : listed_labels list ≡ labels_found list p
   listed_told = listed_found list ∙ ap (labels_found list) (sym e)
 
   -- their hosts, and refusal 8
-  hosts_at : (i : ℕ) → p ≡ AtPlace i → held_hosts look list ≡ held_hosts_from look 0 (lines_from list i)
+  hosts_at : (i : ℕ) → p ≡ Some i → held_hosts look list ≡ held_hosts_from look 0 (lines_from list i)
   unfolding held_hosts ◌>>=◌
   hosts_at i f = rw (listed_told, f)
 
-  hosts_nowhere : p ≡ NoPlace → held_hosts look list ≡ refused 8 0
+  hosts_nowhere : p ≡ None → held_hosts look list ≡ refused 8 0
   unfolding held_hosts ◌>>=◌
   hosts_nowhere f = rw (listed_told, f)
 
   -- a list that is turned away
-  pub head_other : p ≡ NoPlace → listed_numbered (Refused ProphetListMalformed) ≡ host_count (held_hosts look list)
+  pub head_other : p ≡ None → listed_numbered (Err ProphetListMalformed) ≡ host_count (held_hosts look list)
   unfolding ◌>>=◌
   head_other f = sym (ap host_count (hosts_nowhere f))
 
   -- the labels behind its head
-  pub head_label : (i : ℕ) (r : ProphetsListed) → p ≡ AtPlace i → listed_numbered r ≡ host_count (held_hosts_from look 0 (lines_from list i)) → listed_numbered r ≡ host_count (held_hosts look list)
+  pub head_label : (i : ℕ) (r : Result ℕ RelocateRefusal) → p ≡ Some i → listed_numbered r ≡ host_count (held_hosts_from look 0 (lines_from list i)) → listed_numbered r ≡ host_count (held_hosts look list)
   head_label i r f g = g ∙ sym (ap host_count (hosts_at i f))
 
 pub ruleset head_laws = (head_other, head_label, rules)
 
 -- ---- the hosts written
-
--- a label that is found has its host
-pub host_found_lem : (found f : AddressFound) (w : WordAddress) → found ≡ f → found ≡ At w → w.0 ≡ host_in f
-host_found_lem found f w e g = rw (← e, g)
-
--- one that is not has none
-pub host_none : (found f : AddressFound) → found ≡ f → found ≡ Nothing → 0 ≡ host_in f
-host_none found f e g = rw (← e, g)
-
-pub ruleset host_laws = (host_found_lem, host_none, rules)
 
 module _ (list : List ℕ) (index at : ℕ) (line : Line) (e : line ≡ line_from list at) (h : at < length list) where
   -- a line less is left
@@ -205,15 +200,15 @@ pub ruleset put_laws = (label_laws, put_room, put_rest, put_more, put_end, rules
 -- ---- what is written of an answer
 
 -- an accepted count is compared with the room
-pub fit_count : (r : ProphetsListed) (n room : ℕ) → r ≡ Is n → leb n room ≡ fits_in room (listed_numbered r)
+pub fit_count : (r : Result ℕ RelocateRefusal) (n room : ℕ) → r ≡ Ok n → leb n room ≡ fits_in room (listed_numbered r)
 fit_count r n room e = rw e
 
 pub ruleset fit_laws = (fit_count, rules)
 
 -- an accepted host is the one found
-host_is : (k : ℕ) (a : AddressFound) (h : ℕ) → held_host k a ≡ ok h → h ≡ host_in a
-host_is k (At w) h e = sym (ok_same e)
-host_is k Nothing h e = absurd (not_ok e)
+host_is : (k : ℕ) (a : Option WordAddress) (h : ℕ) → held_host k a ≡ ok h → h ≡ host_in a
+host_is k (Some w) h e = sym (ok_same e)
+host_is k None h e = absurd (not_ok e)
 
 -- lists with the same head and the same rest
 cons_same : {x y : ℕ} {xs ys : List ℕ} → x ≡ y → xs ≡ ys → x ∷ xs ≡ y ∷ ys
@@ -230,7 +225,7 @@ hosts_are look k (x ∷ xs) hs e =
     let q : b.0 ≡ hosts_in look xs = hosts_are look (suc k) xs b.0 b.1 in
     sym (ok_same b.2) ∙ cons_same p q
 
-module _ (look : LookUp) (list old : List ℕ) (r : ProphetsListed) (e : listed_numbered r ≡ host_count (held_hosts look list)) (b : Bool) (t : b ≡ fits_in (length old) (listed_numbered r)) where
+module _ (look : LookUp) (list old : List ℕ) (r : Result ℕ RelocateRefusal) (e : listed_numbered r ≡ host_count (held_hosts look list)) (b : Bool) (t : b ≡ fits_in (length old) (listed_numbered r)) where
   -- the test is about the count of all hosts
   fitted : b ≡ fits_in (length old) (host_count (held_hosts look list))
   fitted = t ∙ ap (fits_in (length old)) e
@@ -244,7 +239,7 @@ module _ (look : LookUp) (list old : List ℕ) (r : ProphetsListed) (e : listed_
       go (ok hs) g = rw (lt-ltb (length old) (length hs) (leb-false _ _ g))
       go (refused n d) g = refl
 
-  module _ (f : b ≡ true) (p : PlaceFound) (q : p ≡ labels_start list) where
+  module _ (f : b ≡ true) (p : Option ℕ) (q : p ≡ labels_start list) where
     -- a list that passes it is accepted, and has room
     told : (hs : List ℕ) × (held_hosts look list ≡ ok hs) × (length hs ≤ length old)
     unfolding ◌>>=◌
@@ -254,7 +249,7 @@ module _ (look : LookUp) (list old : List ℕ) (r : ProphetsListed) (e : listed_
         go (ok hs) k g = (hs, k, leb-true _ _ g)
         go (refused n d) k g = let z : ◌≡◌ {A = ℕ} 0 1 = cc in absurd (omega arith)
 
-    module _ (i : ℕ) (g : p ≡ AtPlace i) where
+    module _ (i : ℕ) (g : p ≡ Some i) where
       -- its hosts are those of its labels
       accepted : held_hosts look list ≡ ok (hosts_in look (lines_from list i))
       accepted = told.1 ∙ ap ok (hosts_are look 0 (lines_from list i) told.0 (sym (hosts_at look list p q i g) ∙ told.1))
@@ -276,7 +271,7 @@ module _ (look : LookUp) (list old : List ℕ) (r : ProphetsListed) (e : listed_
           ∙ rw (accepted, le-ltb (length old) (length (hosts_in look (lines_from list i))) fit)
 
     -- where the labels start nowhere the list was refused
-    pub write_nowhere : p ≡ NoPlace → old ≡ hosts_put (held_hosts look list) old
+    pub write_nowhere : p ≡ None → old ≡ hosts_put (held_hosts look list) old
     unfolding on_ok
     write_nowhere g = rw (hosts_nowhere look list p q g)
 

@@ -1,11 +1,13 @@
 -- Lines of the prophet list one after another, and where its labels start.
+use Rattle.std.specs.Prelude.{Option, Some, None}
 use Prim.Native.Nat.{ℕ, suc, ◌+◌, ◌-◌, ◌^◌, ◌<◌, ◌≤◌}
 use mathlib.Core.Path.{◌≡◌, refl, sym, ap, ◌∙◌}
 use mathlib.Core.List.{List, [], ◌∷◌}
+use Rattle.std.specs.Bool.{then_some}
 use mathlib.Core.Bool.{Bool, true, false, cond}
 use native.Mathlib.Omega.{arith}
 use borrow.Author.Rules.{rules}
-use borrow.Author.Tests.{lt-ltb, le-ltb, ltb-true, ltb-false, eq-eqb, ne_eqb, eqb-true, eqb-false}
+use borrow.Author.Tests.{lt-ltb, le-ltb, ltb-true, ltb-false, eqb-true, eqb-false}
 use mir.Val.{Fits}
 use mir.Syntax.{w64}
 use lib.Dec.{eqb, ltb}
@@ -21,8 +23,6 @@ use Rattle.text.specs.declared.Line.{Line}
 use Rattle.text.proofs.Laws.{scan_le, part_from}
 use Rattle.text.proofs.PartLaws.{parts_whole, parts_first, parts_some, line_ended, line_last}
 use Rattle.asm.specs.Parts.{next_line}
-use Rattle.asm.specs.declared.PlaceFound.{PlaceFound}
-use Rattle.asm.specs.declared.PlaceFound.TheVariants.{At, Nothing}
 use Rattle.relocate.specs.Prophets.{without_last_empty, labels_after_head, listed_labels}
 use Rattle.relocate_prophets.specs.Walk.{lines_from, line_from, labels_start}
 
@@ -121,14 +121,14 @@ pub ruleset line_laws = (line_past, end_fits, next_fits, line_unended, line_feed
 
 module _ (list : List ℕ) where
   -- a list above 16,384 bytes
-  pub start_long : 16384 < length list → Nothing ≡ labels_start list
+  pub start_long : 16384 < length list → None ≡ labels_start list
   unfolding labels_start
   start_long h = rw (lt-ltb 16384 (length list) h)
 
   -- the empty list
-  pub start_empty : length list ≤ 16384 → length list ≡ 0 → At 0 ≡ labels_start list
+  pub start_empty : length list ≤ 16384 → eqb (length list) 0 ≡ true → Some 0 ≡ labels_start list
   unfolding labels_start
-  start_empty h k = rw (le-ltb 16384 (length list) h, eq-eqb (length list) 0 k)
+  start_empty h k = rw (le-ltb 16384 (length list) h, k)
 
   module _ (line : Line) (e : line ≡ line_from list 0) where
     -- the first line's length by the scan
@@ -142,29 +142,28 @@ module _ (list : List ℕ) where
         let k = first_length in
         sym (length-take-le line.length list (omega arith))
 
-    module _ (r : Bool) (f : r ≡ same (take line.length list) (bytes "label")) (h : length list ≤ 16384) (k : length list ≡ 0 → ⊥) where
+    module _ (r : Bool) (f : r ≡ same (take line.length list) (bytes "label")) (h : length list ≤ 16384) (k : eqb (length list) 0 ≡ false) where
       -- what was compared is the first line
       first_told : same (take (scan not_feed list) list) (bytes "label") ≡ r
       first_told = sym (f ∙ ap (λ (n : ℕ). same (take n list) (bytes "label")) first_length)
 
-      -- a first line `label`
-      pub start_label : r ≡ true → At line.next ≡ labels_start list
+      -- a first line `label`, or another
+      pub start_head : then_some r line.next ≡ labels_start list
       unfolding labels_start
-      start_label t = rw (le-ltb 16384 (length list) h, ne_eqb (length list) 0 k, first_told, t) (ap (λ (x : Line). At x.next) e)
+      start_head = rw (le-ltb 16384 (length list) h, k, first_told) (ap (then_some r) (ap (λ (x : Line). x.next) e) ∙ go r)
+        where
+          go : (t : Bool) → then_some t (next_line list 0) ≡ cond t (Some (next_line list 0)) None
+          go true = refl
+          go false = refl
 
-      -- another
-      pub start_other : r ≡ false → Nothing ≡ labels_start list
-      unfolding labels_start
-      start_other t = rw (le-ltb 16384 (length list) h, ne_eqb (length list) 0 k, first_told, t)
-
-pub ruleset start_laws = (start_long, start_empty, first_counts, start_label, start_other, rules)
+pub ruleset start_laws = (start_long, start_empty, first_counts, start_head, rules)
 
 -- ---- the labels of a list
 
 -- the labels where they start somewhere, and refusal 8 where not
-abbrev pub labels_found : List ℕ → PlaceFound → Answer (List (List ℕ))
-labels_found list (At i) = ok (lines_from list i)
-labels_found list Nothing = refused 8 0
+abbrev pub labels_found : List ℕ → Option ℕ → Answer (List (List ℕ))
+labels_found list (Some i) = ok (lines_from list i)
+labels_found list None = refused 8 0
 
 -- the labels behind a head
 head_is : (l : List ℕ) (ls : List (List ℕ)) → labels_after_head (l ∷ ls) ≡ cond (same l (bytes "label")) (ok ls) (refused 8 0)
@@ -172,7 +171,7 @@ unfolding labels_after_head
 head_is l ls = refl
 
 -- a test tells both where they start and what they are
-found_or_not : (list : List ℕ) (j : ℕ) (t : Bool) → cond t (ok (lines_from list j)) (refused 8 0) ≡ labels_found list (cond t (At j) Nothing)
+found_or_not : (list : List ℕ) (j : ℕ) (t : Bool) → cond t (ok (lines_from list j)) (refused 8 0) ≡ labels_found list (cond t (Some j) None)
 found_or_not list j true = refl
 found_or_not list j false = refl
 
@@ -183,7 +182,7 @@ no_head list h = rw (lines_end list 0 (omega arith))
 
 -- any other names those behind its first line
 with_head : (list : List ℕ) → (length list ≡ 0 → ⊥)
-    → labels_after_head (lines_from list 0) ≡ labels_found list (cond (same (take (scan not_feed list) list) (bytes "label")) (At (next_line list 0)) Nothing)
+    → labels_after_head (lines_from list 0) ≡ labels_found list (cond (same (take (scan not_feed list) list) (bytes "label")) (Some (next_line list 0)) None)
 with_head list h =
     ap labels_after_head (lines_next list 0 (omega arith))
     ∙ head_is (take (scan not_feed list) list) (lines_from list (next_line list 0))
@@ -196,7 +195,7 @@ listed_found list = go (ltb 16384 (length list)) (eqb (length list) 0) refl
   where
     go : (t u : Bool) → eqb (length list) 0 ≡ u
         → refuse_if t 8 >> labels_after_head (lines_from list 0)
-        ≡ labels_found list (cond t Nothing (cond u (At 0) (cond (same (take (scan not_feed list) list) (bytes "label")) (At (next_line list 0)) Nothing)))
+        ≡ labels_found list (cond t None (cond u (Some 0) (cond (same (take (scan not_feed list) list) (bytes "label")) (Some (next_line list 0)) None)))
     go true u e = refl
     go false true e = no_head list (eqb-true _ _ e)
     go false false e = with_head list (eqb-false _ _ e)

@@ -1,18 +1,15 @@
 -- The prophet list by places: its lines from a place on, where its labels start, and the host that each label has in the table.
-use Rattle.std.specs.Prelude.{ℕ, List, map, Bool, false, cond, eqb, leb, ltb, length, take, drop}
+use Rattle.std.specs.Prelude.{ℕ, List, map, Bool, false, cond, eqb, leb, ltb, length, take, drop, Option, Some, None}
 use Rattle.text.specs.Bytes.{bytes, same}
 use Rattle.text.specs.Scan.{scan, parts}
 use Rattle.text.specs.Lines.{is_feed, not_feed}
 use Rattle.text.specs.Answer.{Answer, ok, refused}
 use Rattle.text.specs.declared.Line.{Line}
 use Rattle.asm.specs.Parts.{next_line}
-use Rattle.asm.specs.declared.PlaceFound.{PlaceFound}
-use Rattle.asm.specs.declared.PlaceFound.TheVariants.{At, Nothing}
 use Rattle.relocate.specs.Labels.{prophet_kind}
 use Rattle.relocate.specs.Prophets.{without_last_empty}
 use Rattle.relocate.specs.Columns.{LookUp}
-use Rattle.relocate.specs.declared.AddressFound.{AddressFound}
-use Rattle.relocate.specs.declared.AddressFound.TheVariants.{At as AtAddress, Nothing as NoAddress}
+use Rattle.relocate.specs.declared.WordAddress.{WordAddress}
 
 -- the lines of a list from place i on, which is a line's start or the list's end
 unfoldable pub lines_from : List ℕ → ℕ → List (List ℕ)
@@ -23,16 +20,16 @@ abbrev pub line_from : List ℕ → ℕ → Line
 line_from list i = record { length = scan not_feed (drop i list); next = next_line list i }
 
 -- where the labels of a list start, nowhere where refusal 8 turns it away: LineLaws says that they are those of `listed_labels`
-unfoldable pub labels_start : List ℕ → PlaceFound
+unfoldable pub labels_start : List ℕ → Option ℕ
 labels_start list =
-    cond (ltb 16384 (length list)) Nothing
-    (cond (eqb (length list) 0) (At 0)
-    (cond (same (take (scan not_feed list) list) (bytes "label")) (At (next_line list 0)) Nothing))
+    cond (ltb 16384 (length list)) None
+    (cond (eqb (length list) 0) (Some 0)
+    (cond (same (take (scan not_feed list) list) (bytes "label")) (Some (next_line list 0)) None))
 
 -- a host that was found
-abbrev pub host_in : AddressFound → ℕ
-host_in (AtAddress a) = a.0
-host_in NoAddress = 0
+abbrev pub host_in : Option WordAddress → ℕ
+host_in (Some a) = a.0
+host_in None = 0
 
 -- the hosts of labels, each of which is found
 abbrev pub hosts_in : LookUp → List (List ℕ) → List ℕ

@@ -3,10 +3,10 @@
 #![tactic(auto)]
 
 ghost use Rattle.std.specs.Prelude.{◌≡◌};
-ghost use Rattle.relocate_rows.specs.Entries.{label_entry, entry_of_row, advanced};
+ghost use Rattle.relocate_rows.specs.Entries.{entry_of_row, advanced};
 
 use asm::AsmRow;
-use relocate::{LabelEntry, WordAddress};
+use relocate::{LabelEntry, LabelKind, WordAddress};
 
 // The largest counts that a row is still added to.
 const LARGEST_SEEN: usize = 9223372036854775807;
@@ -21,85 +21,48 @@ pub struct Progress {
     pub host: u64,
 }
 
-// How far the walk has come after a row.
-#[derive(Clone, Copy)]
-pub enum Advanced {
-    Is(Progress),
-    // A count was above 2^63 - 1 before it, more than the rows of any source come to.
-    Beyond,
-}
-
-// The entry of a label row, or that a line has none.
-#[derive(Clone, Copy)]
-pub enum EntryFound {
-    Is(LabelEntry),
-    Nothing,
-}
-
-// The entry of a label row: address 0 where no instruction follows.
-fn label_entry(kind: u8, mapped: bool, start: usize, length: usize, address: u64) -> LabelEntry
-    ensures { result ≡ label_entry kind mapped start length address }
+// The entry of a row, where so many instructions stand in all rows: address 0 where none of them follows a label row.
+pub fn row_entry(total: usize, progress: Progress, row: AsmRow) -> Option<LabelEntry>
+    ensures { result ≡ entry_of_row total progress row }
 {
-    if mapped {
-        return LabelEntry {
-            kind,
-            mapped,
+    let (kind, start, length, address) = match row {
+        AsmRow::Instruction(_) => return None,
+        AsmRow::LabelCall { start, length } => (LabelKind::Call, start, length, progress.address),
+        AsmRow::LabelJmp { start, length } => (LabelKind::Jmp, start, length, progress.address),
+        AsmRow::LabelProphet { start, length } => (
+            LabelKind::Prophet,
             start,
             length,
-            address: WordAddress(address),
-        };
-    }
-    LabelEntry {
-        kind,
+            progress.host,
+        ),
+    };
+    let mapped = progress.seen < total;
+    let address = WordAddress(if mapped { address } else { 0 });
+    Some(LabelEntry {
+        kind: kind as u8,
         mapped,
         start,
         length,
-        address: WordAddress(0),
-    }
-}
-
-// The entry of a row, where so many instructions stand in all rows.
-pub fn row_entry(total: usize, progress: Progress, row: AsmRow) -> EntryFound
-    ensures { result ≡ entry_of_row total progress row }
-{
-    let mapped = progress.seen < total;
-    let address = progress.address;
-    let host = progress.host;
-    match row {
-        AsmRow::Instruction(instruction) => EntryFound::Nothing,
-        AsmRow::LabelCall { start, length } => {
-            EntryFound::Is(label_entry(0, mapped, start, length, address))
-        }
-        AsmRow::LabelJmp { start, length } => {
-            EntryFound::Is(label_entry(1, mapped, start, length, address))
-        }
-        AsmRow::LabelProphet { start, length } => {
-            EntryFound::Is(label_entry(2, mapped, start, length, host))
-        }
-    }
+        address,
+    })
 }
 
 // How far the walk has come after a row, or that a count is too large for one row more.
-pub fn row_after(progress: Progress, row: AsmRow) -> Advanced
+pub fn row_after(progress: Progress, row: AsmRow) -> Option<Progress>
     ensures { result ≡ advanced progress row }
 {
-    if LARGEST_SEEN < progress.seen {
-        return Advanced::Beyond;
-    }
-    if LARGEST_ADDRESS < progress.address {
-        return Advanced::Beyond;
+    if LARGEST_SEEN < progress.seen || LARGEST_ADDRESS < progress.address {
+        return None;
     }
     match row {
         AsmRow::Instruction(instruction) => {
             let length = asm_lengths::binary_length(instruction);
-            Advanced::Is(Progress {
+            Some(Progress {
                 seen: progress.seen + 1,
                 address: progress.address + length as u64,
                 host: progress.address,
             })
         }
-        AsmRow::LabelCall { start, length } => Advanced::Is(progress),
-        AsmRow::LabelJmp { start, length } => Advanced::Is(progress),
-        AsmRow::LabelProphet { start, length } => Advanced::Is(progress),
+        _ => Some(progress),
     }
 }

@@ -1,17 +1,17 @@
 -- The walk that fills the columns: what is left of the table after each line, and that the counts stay small.
-use Prim.Native.Nat.{ℕ, suc, ◌+◌, ◌-◌, ◌^◌, ◌<◌, ◌≤◌}
+use Rattle.std.specs.Prelude.{Option, Some, None}
+use Prim.Native.Nat.{ℕ, suc, ◌+◌, ◌-◌, ◌<◌, ◌≤◌}
 use mathlib.Core.Path.{◌≡◌, refl, sym, ap, subst, ◌∙◌}
 use mathlib.Core.List.{List, [], ◌∷◌, ◌++◌, map}
-use mathlib.Core.Bool.{Bool}
 use native.Mathlib.Omega.{arith}
 use native.Mathlib.Nat.{le_refl, zero-add, add-zero}
-use borrow.Author.Rules.{rules}
 use lib.ListN.{length, set, length-append, length-map}
 use lib.Seq.{sets, length-sets}
 use Rattle.text.specs.Answer.{Answer, ok, on_ok}
 use Rattle.text.proofs.AnswerLaws.{sets_over}
 use Rattle.asm.specs.declared.AsmRow.{AsmRow}
 use Rattle.asm.specs.declared.AsmRow.TheVariants.{Instruction, LabelCall, LabelJmp, LabelProphet}
+use Rattle.asm.specs.declared.LineRead.{LineRead}
 use Rattle.asm.specs.declared.LineRead.TheVariants.{Blank, Row, Unreadable}
 use Rattle.asm.specs.declared.RowAt.{RowAt}
 use Rattle.relocate.specs.Labels.{table_of}
@@ -22,10 +22,11 @@ use Rattle.relocate.specs.declared.LabelEntry.{LabelEntry}
 use Rattle.relocate.specs.declared.Layout.{Layout}
 use Rattle.relocate_laws.proofs.WalkLaws.{sorted_end, sorted_blank, sorted_row, sorted_unreadable, sorted_next_past, sorted_next_within, sorted_room}
 use Rattle.relocate_rows.specs.declared.Progress.{Progress}
-use Rattle.relocate_rows.specs.declared.EntryFound.{EntryFound}
-use Rattle.relocate_rows.specs.Entries.{entry_of_row, after, largest_count, entry_list, entries_after}
+use Rattle.relocate_rows.specs.Entries.{entry_of_row, after, entry_list, entries_after}
 use Rattle.relocate_rows.proofs.Laws.{counted_length_le}
 use Rattle.relocate_rows.proofs.LaidLaws.{entries_from, all_entries, laid}
+use Rattle.relocate_table.specs.declared.ColumnsMut.{ColumnsMut}
+use Rattle.relocate_table.specs.Filled.{Holds, SameSlices, Puts, Left}
 
 -- ---- one column
 
@@ -55,9 +56,8 @@ module _ {A : Type 0} {field : LabelEntry → A} {d₀ : List A} {all : List Lab
 
 -- ---- all columns
 
--- n entries stand in the columns and the rest is left at place at; how far the walk has come is no more than the place
-pub record Filling (s : List ℕ) (room : ℕ) (l : Layout) (kinds₀ : List ℕ) (mapped₀ : List Bool) (starts₀ lengths₀ addresses₀ : List ℕ) (p : Progress) (n at : ℕ)
-    (kinds : List ℕ) (mapped : List Bool) (starts lengths addresses : List ℕ) : Type 0 where
+-- n entries stand in the columns c, which were c₀ before, and the rest is left at place at; how far the walk has come is no more than the place
+pub record Filling (s : List ℕ) (room : ℕ) (l : Layout) (c₀ : ColumnsMut) (p : Progress) (n at : ℕ) (c : ColumnsMut) : Type 0 where
   pub ordered : l.start ≤ l.end
   pub ended : l.end ≤ length s
   pub enough : length (all_entries s l) ≤ room
@@ -65,16 +65,16 @@ pub record Filling (s : List ℕ) (room : ℕ) (l : Layout) (kinds₀ : List ℕ
   pub seen : p.seen ≤ at
   pub address : p.address ≤ at
   pub count : n + length (entries_from s l p at) ≡ length (all_entries s l)
-  pub kind : Column kind_of kinds₀ (all_entries s l) kinds n (entries_from s l p at)
-  pub map : Column mapped_of mapped₀ (all_entries s l) mapped n (entries_from s l p at)
-  pub start : Column start_of starts₀ (all_entries s l) starts n (entries_from s l p at)
-  pub long : Column length_of lengths₀ (all_entries s l) lengths n (entries_from s l p at)
-  pub place : Column address_in addresses₀ (all_entries s l) addresses n (entries_from s l p at)
+  pub slices : SameSlices c₀ c
+  pub kinds : Column kind_of c₀.kinds.now (all_entries s l) c.kinds.now n (entries_from s l p at)
+  pub mapped : Column mapped_of c₀.mapped.now (all_entries s l) c.mapped.now n (entries_from s l p at)
+  pub starts : Column start_of c₀.starts.now (all_entries s l) c.starts.now n (entries_from s l p at)
+  pub lengths : Column length_of c₀.lengths.now (all_entries s l) c.lengths.now n (entries_from s l p at)
+  pub addresses : Column address_in c₀.addresses.now (all_entries s l) c.addresses.now n (entries_from s l p at)
 
 -- nothing stands in the columns at the start
-pub filling_begin : (s : List ℕ) (room : ℕ) (l : Layout) (kinds : List ℕ) (mapped : List Bool) (starts lengths addresses : List ℕ) → measured s room ≡ ok l
-    → Filling s room l kinds mapped starts lengths addresses (record { seen = 0; address = 0; host = 0 }) 0 0 kinds mapped starts lengths addresses
-filling_begin s room l kinds mapped starts lengths addresses h =
+pub filling_begin : (s : List ℕ) (room : ℕ) (l : Layout) (c : ColumnsMut) → measured s room ≡ ok l → Filling s room l c (record { seen = 0; address = 0; host = 0 }) 0 0 c
+filling_begin s room l c h =
     let w = laid s room l h in
     record {
       ordered = w.ordered;
@@ -84,36 +84,15 @@ filling_begin s room l kinds mapped starts lengths addresses h =
       seen = le_refl 0;
       address = le_refl 0;
       count = zero-add _;
-      kind = record { put = refl };
-      map = record { put = refl };
-      start = record { put = refl };
-      long = record { put = refl };
-      place = record { put = refl };
+      slices = record { kinds = refl; mapped = refl; starts = refl; lengths = refl; addresses = refl };
+      kinds = record { put = refl };
+      mapped = record { put = refl };
+      starts = record { put = refl };
+      lengths = record { put = refl };
+      addresses = record { put = refl };
     }
 
-module _ {s : List ℕ} {room : ℕ} {l : Layout} {kinds₀ : List ℕ} {mapped₀ : List Bool} {starts₀ lengths₀ addresses₀ : List ℕ} {p : Progress} {n at : ℕ}
-    {kinds : List ℕ} {mapped : List Bool} {starts lengths addresses : List ℕ}
-    (w : Filling s room l kinds₀ mapped₀ starts₀ lengths₀ addresses₀ p n at kinds mapped starts lengths addresses) where
-  -- the column of kinds is as long as it was
-  pub kinds_long : length kinds ≡ length kinds₀
-  kinds_long = column_length w.kind
-
-  -- that of mapped rows
-  pub mapped_long : length mapped ≡ length mapped₀
-  mapped_long = column_length w.map
-
-  -- that of starts
-  pub starts_long : length starts ≡ length starts₀
-  starts_long = column_length w.start
-
-  -- that of lengths
-  pub lengths_long : length lengths ≡ length lengths₀
-  lengths_long = column_length w.long
-
-  -- that of addresses
-  pub addresses_long : length addresses ≡ length addresses₀
-  addresses_long = column_length w.place
-
+module _ {s : List ℕ} {room : ℕ} {l : Layout} {c₀ : ColumnsMut} {p : Progress} {n at : ℕ} {c : ColumnsMut} (w : Filling s room l c₀ p n at c) where
   module _ (line : RowAt) (e : line ≡ sorted_row_at s l.start l.end at) (h : at < length s) where
     -- the next line starts further on
     further_on : at < line.next
@@ -128,8 +107,7 @@ module _ {s : List ℕ} {room : ℕ} {l : Layout} {kinds₀ : List ℕ} {mapped�
     filling_less = let a = further_on in let b = inside in omega arith
 
     -- a line that adds no row leaves the same entries
-    skip : sorted_from s l.start l.end at ≡ sorted_from s l.start l.end line.next
-        → Filling s room l kinds₀ mapped₀ starts₀ lengths₀ addresses₀ p n line.next kinds mapped starts lengths addresses
+    skip : sorted_from s l.start l.end at ≡ sorted_from s l.start l.end line.next → Filling s room l c₀ p n line.next c
     skip f =
         let a = further_on in
         let b = w.seen in
@@ -143,20 +121,22 @@ module _ {s : List ℕ} {room : ℕ} {l : Layout} {kinds₀ : List ℕ} {mapped�
           seen = omega arith;
           address = omega arith;
           count = rw (sym g) w.count;
-          kind = column_same w.kind _ g;
-          map = column_same w.map _ g;
-          start = column_same w.start _ g;
-          long = column_same w.long _ g;
-          place = column_same w.place _ g;
+          slices = w.slices;
+          kinds = column_same w.kinds _ g;
+          mapped = column_same w.mapped _ g;
+          starts = column_same w.starts _ g;
+          lengths = column_same w.lengths _ g;
+          addresses = column_same w.addresses _ g;
         }
 
-    -- a line with no piece adds none
-    pub filling_blank : line.read ≡ Blank → Filling s room l kinds₀ mapped₀ starts₀ lengths₀ addresses₀ p n line.next kinds mapped starts lengths addresses
-    filling_blank f = skip (sorted_blank s l.start l.end at line w.ordered w.ended e h f)
-
-    -- an unreadable line adds none
-    pub filling_unreadable : line.read ≡ Unreadable → Filling s room l kinds₀ mapped₀ starts₀ lengths₀ addresses₀ p n line.next kinds mapped starts lengths addresses
-    filling_unreadable f = skip (sorted_unreadable s l.start l.end at line w.ordered w.ended e h f)
+    -- a line that is no row adds none
+    pub filling_other : ((r : AsmRow) → line.read ≡ Row r → ⊥) → Filling s room l c₀ p n line.next c
+    filling_other k = go line.read refl
+      where
+        go : (x : LineRead) → line.read ≡ x → Filling s room l c₀ p n line.next c
+        go Blank f = skip (sorted_blank s l.start l.end at line w.ordered w.ended e h f)
+        go Unreadable f = skip (sorted_unreadable s l.start l.end at line w.ordered w.ended e h f)
+        go (Row r) f = absurd (k r f)
 
     module _ (row : AsmRow) (f : line.read ≡ Row row) where
       -- how far the walk has come after a row is no more than the next place
@@ -172,42 +152,41 @@ module _ {s : List ℕ} {room : ℕ} {l : Layout} {kinds₀ : List ℕ} {mapped�
       after_small (LabelJmp start k) g = let a = further_on in let b = w.seen in let c = w.address in (omega arith, omega arith)
       after_small (LabelProphet start k) g = let a = further_on in let b = w.seen in let c = w.address in (omega arith, omega arith)
 
-      -- how far it has come is small enough for one row more
-      pub filling_small : length s < 2 ^ 63 → (p.seen ≤ largest_count) × (p.address ≤ largest_count)
-      filling_small k = let b = w.seen in let c = w.address in (omega arith, omega arith)
-
-      module _ (entry : EntryFound) (g : entry ≡ entry_of_row l.instructions p row) where
+      module _ (entry : Option LabelEntry) (g : entry ≡ entry_of_row l.instructions p row) where
         -- the row's entry comes first
         left_is : entries_from s l p at ≡ entry_list entry ++ entries_from s l (after p row) line.next
         unfolding entries_after
         left_is =
             ap (entries_after l.instructions p) (sorted_row s l.start l.end at line w.ordered w.ended e row h f)
-            ∙ ap (λ (x : EntryFound). entry_list x ++ entries_from s l (after p row) line.next) (sym g)
+            ∙ ap (λ (x : Option LabelEntry). entry_list x ++ entries_from s l (after p row) line.next) (sym g)
 
         -- and is counted
         left_long : length (entries_from s l p at) ≡ length (entry_list entry) + length (entries_from s l (after p row) line.next)
         left_long = ap length left_is ∙ length-append (entry_list entry) (entries_from s l (after p row) line.next)
 
-        -- there is a place for the row's entry in a column that is as long as it was
-        pub filling_room : (k m : ℕ) → k ≡ m → room ≤ m → n + length (entry_list entry) ≤ k
-        filling_room k m a b = let c = left_long in let d = w.count in let j = w.enough in omega arith
-
-        -- a row's entry was put
-        pub filling_row : (q : Progress) (m : ℕ) (kinds' : List ℕ) (mapped' : List Bool) (starts' lengths' addresses' : List ℕ)
-            → q ≡ after p row
-            → m ≡ n + length (entry_list entry)
-            → kinds' ≡ sets kinds n (map kind_of (entry_list entry))
-            → mapped' ≡ sets mapped n (map mapped_of (entry_list entry))
-            → starts' ≡ sets starts n (map start_of (entry_list entry))
-            → lengths' ≡ sets lengths n (map length_of (entry_list entry))
-            → addresses' ≡ sets addresses n (map address_in (entry_list entry))
-            → Filling s room l kinds₀ mapped₀ starts₀ lengths₀ addresses₀ q m line.next kinds' mapped' starts' lengths' addresses'
-        filling_row q m kinds' mapped' starts' lengths' addresses' a b x₀ x₁ x₂ x₃ x₄ =
-            let u = after_small row f in
-            let c = left_long in
+        -- the columns have a place for it
+        pub filling_room : (x : LabelEntry) → entry ≡ Some x → Holds c₀ room → Holds c (n + 1)
+        filling_room x i r =
+            let a = ap (λ (o : Option LabelEntry). length (entry_list o)) i in
+            let b = left_long in
             let d = w.count in
-            subst (λ (q : Progress). Filling s room l kinds₀ mapped₀ starts₀ lengths₀ addresses₀ q m line.next kinds' mapped' starts' lengths' addresses') (sym a)
-            (record {
+            let j = w.enough in
+            let room_in : (k m : ℕ) → k ≡ m → room ≤ m → n + 1 ≤ k = λ k m u v. omega arith in
+            record {
+              kinds = room_in _ _ (column_length w.kinds) r.kinds;
+              mapped = room_in _ _ (column_length w.mapped) r.mapped;
+              starts = room_in _ _ (column_length w.starts) r.starts;
+              lengths = room_in _ _ (column_length w.lengths) r.lengths;
+              addresses = room_in _ _ (column_length w.addresses) r.addresses;
+            }
+
+        -- the row's entries were put
+        more : (d : ColumnsMut) (m : ℕ) → m ≡ n + length (entry_list entry) → SameSlices c₀ d → Puts c d n (entry_list entry) → Filling s room l c₀ (after p row) m line.next d
+        more d m b t x =
+            let u = after_small row f in
+            let k = left_long in
+            let j = w.count in
+            record {
               ordered = w.ordered;
               ended = w.ended;
               enough = w.enough;
@@ -215,12 +194,33 @@ module _ {s : List ℕ} {room : ℕ} {l : Layout} {kinds₀ : List ℕ} {mapped�
               seen = u.0;
               address = u.1;
               count = omega arith;
-              kind = column_more w.kind (entry_list entry) left_is b x₀;
-              map = column_more w.map (entry_list entry) left_is b x₁;
-              start = column_more w.start (entry_list entry) left_is b x₂;
-              long = column_more w.long (entry_list entry) left_is b x₃;
-              place = column_more w.place (entry_list entry) left_is b x₄;
+              slices = t;
+              kinds = column_more w.kinds (entry_list entry) left_is b x.kinds;
+              mapped = column_more w.mapped (entry_list entry) left_is b x.mapped;
+              starts = column_more w.starts (entry_list entry) left_is b x.starts;
+              lengths = column_more w.lengths (entry_list entry) left_is b x.lengths;
+              addresses = column_more w.addresses (entry_list entry) left_is b x.addresses;
+            }
+
+        -- a row with no entry
+        pub filling_none : (q : Progress) → q ≡ after p row → entry ≡ None → Filling s room l c₀ q n line.next c
+        filling_none q a i =
+            rw a
+            (more c n (rw i (omega arith)) w.slices (record { kinds = rw i; mapped = rw i; starts = rw i; lengths = rw i; addresses = rw i }))
+
+        -- an entry was put
+        pub filling_put : (q : Progress) (d : ColumnsMut) (x : LabelEntry) → q ≡ after p row → entry ≡ Some x → SameSlices c d → Puts c d n (x ∷ []) → Filling s room l c₀ q (n + 1) line.next d
+        filling_put q d x a i t y =
+            rw a
+            (more d (n + 1) (rw i)
+            (record {
+              kinds = t.kinds ∙ w.slices.kinds;
+              mapped = t.mapped ∙ w.slices.mapped;
+              starts = t.starts ∙ w.slices.starts;
+              lengths = t.lengths ∙ w.slices.lengths;
+              addresses = t.addresses ∙ w.slices.addresses;
             })
+            (rw i y))
 
 -- ---- the whole table
 
@@ -234,37 +234,23 @@ column_done {field = field} {d₀ = d₀} {all = all} {d = d} {n = n} c answer r
     ∙ sets_over (map field all) d₀ k
     ∙ rw (e, sym f)
 
-module _ {s : List ℕ} {room : ℕ} {l : Layout} {kinds₀ : List ℕ} {mapped₀ : List Bool} {starts₀ lengths₀ addresses₀ : List ℕ} {p : Progress} {n at : ℕ}
-    {kinds : List ℕ} {mapped : List Bool} {starts lengths addresses : List ℕ}
-    (w : Filling s room l kinds₀ mapped₀ starts₀ lengths₀ addresses₀ p n at kinds mapped starts lengths addresses) (h : length s ≤ at) (m : measured s room ≡ ok l) where
-  -- no entry is left at the end
-  none_left : entries_from s l p at ≡ []
-  unfolding entries_after
-  none_left = rw (sorted_end s l.start l.end at w.ordered w.ended h)
-
-  module _ {A : Type 0} {field : LabelEntry → A} {d₀ d : List A} (c : Column field d₀ (all_entries s l) d n (entries_from s l p at)) where
-    -- so a column holds the table
-    done : room ≤ length d₀ → d ≡ column_left (tabled s room) field d₀
-    done r = let v = laid s room l m in let k = v.enough in column_done c (tabled s room) v.rows v.table v.entries none_left (omega arith)
-
-  -- the column of kinds
-  pub kinds_done : room ≤ length kinds₀ → kinds ≡ column_left (tabled s room) kind_of kinds₀
-  kinds_done r = done w.kind r
-
-  -- of mapped rows
-  pub mapped_done : room ≤ length mapped₀ → mapped ≡ column_left (tabled s room) mapped_of mapped₀
-  mapped_done r = done w.map r
-
-  -- of starts
-  pub starts_done : room ≤ length starts₀ → starts ≡ column_left (tabled s room) start_of starts₀
-  starts_done r = done w.start r
-
-  -- of lengths
-  pub lengths_done : room ≤ length lengths₀ → lengths ≡ column_left (tabled s room) length_of lengths₀
-  lengths_done r = done w.long r
-
-  -- of addresses
-  pub addresses_done : room ≤ length addresses₀ → addresses ≡ column_left (tabled s room) address_in addresses₀
-  addresses_done r = done w.place r
-
-pub ruleset fill_laws = (filling_begin, filling_less, filling_blank, filling_unreadable, filling_small, filling_room, filling_row, kinds_long, mapped_long, starts_long, lengths_long, addresses_long, kinds_done, mapped_done, starts_done, lengths_done, addresses_done, rules)
+-- at the source's end the columns hold the table
+pub filling_done : {s : List ℕ} {room : ℕ} {l : Layout} {c₀ : ColumnsMut} {p : Progress} {n at : ℕ} {c : ColumnsMut} → Filling s room l c₀ p n at c
+    → length s ≤ at → measured s room ≡ ok l → Holds c₀ room → Left c₀ c (tabled s room)
+unfolding entries_after
+filling_done {s = s} {room = room} {l = l} {p = p} {at = at} w h m r =
+    let v = laid s room l m in
+    let k = v.enough in
+    let none : entries_from s l p at ≡ [] = rw (sorted_end s l.start l.end at w.ordered w.ended h) in
+    let kinds = r.kinds in
+    let mapped = r.mapped in
+    let starts = r.starts in
+    let lengths = r.lengths in
+    let addresses = r.addresses in
+    record {
+      kinds = column_done w.kinds (tabled s room) v.rows v.table v.entries none (omega arith);
+      mapped = column_done w.mapped (tabled s room) v.rows v.table v.entries none (omega arith);
+      starts = column_done w.starts (tabled s room) v.rows v.table v.entries none (omega arith);
+      lengths = column_done w.lengths (tabled s room) v.rows v.table v.entries none (omega arith);
+      addresses = column_done w.addresses (tabled s room) v.rows v.table v.entries none (omega arith);
+    }

@@ -19,6 +19,7 @@ pub struct Stretch {
 }
 
 // The stretch of a place of a sorted source that has a length.
+#[tactic(auto, using(text::proofs::Laws::tests), unfolding(crate::specs::Stretch::stretch_at))]
 fn stretch_at(length: usize, start: usize, end: usize, at: usize) -> Stretch
     ensures { result ≡ stretch_at length start end at }
 {
@@ -28,10 +29,7 @@ fn stretch_at(length: usize, start: usize, end: usize, at: usize) -> Stretch
         add: 0,
         take: 0,
     };
-    if end < start {
-        return whole;
-    }
-    if length < end {
+    if end < start || length < end {
         return whole;
     }
     let main = end - start;
@@ -39,8 +37,8 @@ fn stretch_at(length: usize, start: usize, end: usize, at: usize) -> Stretch
         return Stretch {
             stop: end,
             place: start + at,
-            add: 0,
             take: start,
+            ..whole
         };
     }
     if at < end {
@@ -48,19 +46,21 @@ fn stretch_at(length: usize, start: usize, end: usize, at: usize) -> Stretch
             stop: start,
             place: at - main,
             add: main,
-            take: 0,
+            ..whole
         };
     }
     whole
 }
 
 // The line at a place of the sorted source, where main's scope runs from start to end, read as a row, and the place of the line after it.
+#[tactic(auto, using(crate::proofs::Laws::walk_laws))]
 pub fn sorted_row(source: &[u8], start: usize, end: usize, at: usize) -> RowAt
     ensures { result ≡ sorted_row_at source.now start end at }
 {
     let stretch = stretch_at(source.len(), start, end, at);
-    let stop = stretch.stop;
-    let mut row = asm_rows::row_at(&source[..stop], stretch.place);
-    row.next = row.next + stretch.add - stretch.take;
-    row
+    let row = asm_rows::row_at(&source[..stretch.stop], stretch.place);
+    RowAt {
+        next: row.next + stretch.add - stretch.take,
+        ..row
+    }
 }

@@ -1,11 +1,13 @@
 // The cases of assembling.
+ghost use Rattle.std.specs.Prelude.{◌≤◌, ◌<◌};
+
 use ola_answers::OlaAssembly;
-use relocate::AddressFound;
-use replay_lines::answers::{Answer, put, put_byte, put_head, put_number, put_space};
-use replay_lines::fields::{
-    EQUALS, FAULT, SPACE, TAB, count_of, first_of, part, parted, unescape, within,
-};
-use replay_lines::programs::put_program;
+use relocate::{LabelKind, WordAddress};
+use replay_lines::answers::{UNREAD, write_head, write_space};
+use replay_lines::fields::{NO_COUNT, count_of, field, item, named, unescape, within};
+use replay_lines::programs::write_program;
+use std::io;
+use std::io::Write;
 
 // What assembling answered and wrote. The table's entries past those lent are zeros and not mapped.
 #[derive(Clone, Copy)]
@@ -20,116 +22,88 @@ struct Assembled {
     hosts: [u64; 512],
 }
 
-// The address of the row among the first so many entries that holds a name of a kind, FAULT where there is none.
-fn address_of(source: &[u8], done: Assembled, n: usize, kind: u8, name: &[u8]) -> u64 {
-    let kinds = done.kinds;
-    let mapped = done.mapped;
-    let starts = done.starts;
-    let lengths = done.lengths;
-    let addresses = done.addresses;
-    let found = relocate_names::held_address(
-        source,
-        part(&kinds, 0, n),
-        &mapped,
-        &starts,
-        &lengths,
-        &addresses,
-        kind,
-        name,
-    );
-    match found {
-        AddressFound::At(address) => address.0,
-        AddressFound::Nothing => FAULT as u64,
+impl Assembled {
+    // The address of the row among the first so many entries that holds a name of a kind.
+    fn address_of(&self, source: &[u8], n: usize, kind: u8, name: &[u8]) -> Option<WordAddress>
+        requires { n ≤ 512 }
+    {
+        relocate_names::held_address(
+            source,
+            &self.kinds[..n],
+            &self.mapped,
+            &self.starts,
+            &self.lengths,
+            &self.addresses,
+            kind,
+            name,
+        )
     }
-}
 
-// Whether an entry is the first that holds a name of a kind: with it the name is held, and without it not yet.
-fn is_first(source: &[u8], done: Assembled, i: usize, kind: u8) -> bool {
-    let starts = done.starts;
-    let lengths = done.lengths;
-    if 512 <= i {
-        return false;
+    // Whether an entry is the first that holds a name of a kind: with it the name is held, and without it not yet.
+    fn is_first(&self, source: &[u8], i: usize, kind: u8) -> bool
+        requires { i < 512 }
+    {
+        let name = relocate_names::name_at(source, self.starts[i], self.lengths[i]);
+        self.address_of(source, i, kind, name).is_none()
+            && self.address_of(source, i + 1, kind, name).is_some()
     }
-    let name = relocate_names::name_at(source, starts[i], lengths[i]);
-    if address_of(source, done, i, kind, name) != FAULT as u64 {
-        return false;
-    }
-    address_of(source, done, i + 1, kind, name) != FAULT as u64
-}
 
-// How many names of a kind are mapped.
-fn count_names(source: &[u8], done: Assembled, kind: u8) -> usize {
-    let mut n: usize = 0;
-    let mut i: usize = 0;
-    while i < 512 {
-        if is_first(source, done, i, kind) {
-            n = (n % 512) + 1;
+    // How many names of a kind are mapped.
+    fn count_names(&self, source: &[u8], kind: u8) -> usize {
+        (0..512).filter(|i| self.is_first(source, *i, kind)).count()
+    }
+
+    // As many names of a kind as are mapped, each with the address of the row that holds it. Which they are is asked by the items.
+    fn write_addresses(
+        &self,
+        out: &mut impl Write,
+        items: &[u8],
+        source: &[u8],
+        kind: u8,
+    ) -> io::Result<()> {
+        out.write_all(b"\t")?;
+        for i in 0..self.count_names(source, kind) {
+            let name = named(item(items, i));
+            let address = match self.address_of(source, 512, kind, name) {
+                Some(address) => address.0,
+                None => NO_COUNT as u64,
+            };
+            write_space(out, i)?;
+            out.write_all(name)?;
+            write!(out, "={address}")?;
         }
-        i += 1;
+        Ok(())
     }
-    n
-}
 
-// The i-th name of a kind and the address of the row that holds it. Which it is is asked by the items.
-fn put_address(
-    answer: Answer,
-    items: &[u8],
-    i: usize,
-    source: &[u8],
-    done: Assembled,
-    kind: u8,
-) -> Answer {
-    let name = parted(parted(items, SPACE, i), EQUALS, 0);
-    let start = put(put_space(answer, i), name);
-    put_number(
-        put_byte(start, EQUALS),
-        address_of(source, done, 512, kind, name),
-    )
-}
-
-// As many names of a kind as are mapped.
-fn put_addresses(answer: Answer, items: &[u8], source: &[u8], done: Assembled, kind: u8) -> Answer {
-    let count = count_names(source, done, kind);
-    let mut out = put_byte(answer, TAB);
-    let mut i: usize = 0;
-    while i < count {
-        out = put_address(out, items, i, source, done, kind);
-        i += 1;
+    // What assembling answered and wrote. Answers the refusal.
+    fn write(&self, out: &mut impl Write, line: &[u8], source: &[u8]) -> io::Result<u64> {
+        let found = self.found;
+        if found.refusal != 0 {
+            write_head(out, found.refusal, found.detail)?;
+            return Ok(found.refusal);
+        }
+        let words = self.words.get(..found.words as usize).unwrap_or(&[]);
+        let hosts = self.hosts.get(..found.hosts as usize).unwrap_or(&[]);
+        let refusal = write_program(out, line, words, hosts, found.kept)?;
+        self.write_addresses(out, field(line, 10), source, LabelKind::Call as u8)?;
+        self.write_addresses(out, field(line, 11), source, LabelKind::Jmp as u8)?;
+        Ok(refusal)
     }
-    out
 }
 
-// What assembling answered and wrote.
-fn put_assembly(line: &[u8], source: &[u8], done: Assembled) -> Answer {
-    let found = done.found;
-    if found.refusal != 0 {
-        return put_head(found.refusal, found.detail);
-    }
-    let words = done.words;
-    let hosts = done.hosts;
-    let program = put_program(
-        line,
-        first_of(&words, found.words as usize),
-        first_of(&hosts, found.hosts as usize),
-        found.kept,
-    );
-    let calls = put_addresses(program, parted(line, TAB, 10), source, done, 0);
-    put_addresses(calls, parted(line, TAB, 11), source, done, 1)
-}
-
-// Assembles with room for so many entries, words and hosts, at most 512.
-fn assemble(source: &[u8], prophets: &[u8], e: usize, w: usize, h: usize) -> Assembled {
-    let entries = within(e, 512);
+// Assembles with the room for entries, words and hosts that a line says, each at most 512.
+fn assemble(line: &[u8], source: &[u8], prophets: &[u8]) -> Assembled {
+    let entries = within(count_of(field(line, 3)).unwrap_or(0), 512);
+    let word_room = within(count_of(field(line, 4)).unwrap_or(0), 512);
+    let host_room = within(count_of(field(line, 5)).unwrap_or(0), 512);
     let mut kinds = [0u8; 512];
     let mut mapped = [false; 512];
     let mut starts = [0usize; 512];
     let mut lengths = [0usize; 512];
     let mut addresses = [0u64; 512];
-    let word_room = within(w, 512);
     let mut words = [0u64; 512];
-    let host_room = within(h, 512);
     let mut hosts = [0u64; 512];
-    let out = encoder_assemble::assemble_parts(
+    let answer = encoder_assemble::assemble_parts(
         source,
         prophets,
         &mut kinds[..entries],
@@ -141,7 +115,7 @@ fn assemble(source: &[u8], prophets: &[u8], e: usize, w: usize, h: usize) -> Ass
         &mut hosts[..host_room],
     );
     Assembled {
-        found: ola_answers::assembly_out(out),
+        found: ola_answers::assembly_out(answer),
         kinds,
         mapped,
         starts,
@@ -152,19 +126,9 @@ fn assemble(source: &[u8], prophets: &[u8], e: usize, w: usize, h: usize) -> Ass
     }
 }
 
-// Assembling a source with the prophet list and the room of a line.
-pub(crate) fn put_assemble(line: &[u8], source: &[u8]) -> Answer {
+// Assembling a source with the prophet list and the room of a line. Answers the refusal.
+pub(crate) fn write_assemble(out: &mut impl Write, line: &[u8], source: &[u8]) -> io::Result<u64> {
     let mut list = [0u8; 16400];
-    let n = unescape(parted(line, TAB, 2), &mut list);
-    if 16400 < n {
-        return put_head(99, 0);
-    }
-    let entries = count_of(parted(line, TAB, 3));
-    let words = count_of(parted(line, TAB, 4));
-    let hosts = count_of(parted(line, TAB, 5));
-    put_assembly(
-        line,
-        source,
-        assemble(source, part(&list, 0, n), entries, words, hosts),
-    )
+    let prophets = unescape(field(line, 2), &mut list).ok_or(UNREAD)?;
+    assemble(line, source, prophets).write(out, line, source)
 }

@@ -7,192 +7,172 @@
 
 mod assembling;
 
-use replay_lines::answers::{Answer, is_said};
-use replay_lines::fields::{SPACE, TAB, count_of, mark_place, part, parted, start_of, unescape};
-use replay_lines::{answers, reading};
-use std::env::{Env, FillError};
+use replay_lines::fields::{count_of, field, fields_from, unescape};
+use replay_lines::reading;
 use std::io;
 use std::io::{Read, Write};
-use std::rt::Files;
 
-// Where the tally counts the cases that differ, and all cases. One that agrees is counted at its refusal, at 0 where it is accepted.
-const DIFFERS: u64 = 99;
-
-const CASES: u64 = 98;
-
+// How many cases a file has, how many of them differ, and how many agree of each refusal, at 0 those that are accepted.
 #[derive(Clone, Copy)]
 struct Tally {
-    counts: [u64; 100],
+    cases: u64,
+    differ: u64,
+    agree: [u64; 26],
 }
 
-// The functions, parted by spaces.
-const NAMES: [u8; 35] = *b"assemble open next encode row write";
+// The function that a line asks.
+#[derive(Clone, Copy)]
+enum Function {
+    Assemble,
+    Open,
+    Next,
+    Encode,
+    Row,
+    Write,
+}
 
-// Which function a line names, by its place among them, 6 where it names none.
-fn function_of(line: &[u8]) -> usize {
-    let name = parted(line, TAB, 0);
-    let mut k: usize = 0;
-    while k < 6 {
-        if text::same_bytes(name, parted(&NAMES, SPACE, k)) {
-            return k;
+impl Function {
+    // The function of a name.
+    fn named(name: &[u8]) -> Option<Function> {
+        match name {
+            b"assemble" => Some(Function::Assemble),
+            b"open" => Some(Function::Open),
+            b"next" => Some(Function::Next),
+            b"encode" => Some(Function::Encode),
+            b"row" => Some(Function::Row),
+            b"write" => Some(Function::Write),
+            _ => None,
         }
-        k += 1;
     }
-    k
-}
 
-// The first field of a function's answer: the one behind what the function is given.
-fn answer_place(function: usize) -> usize {
-    match function {
-        0 => 6,
-        1 => 2,
-        3 => 2,
-        _ => 3,
+    // The first field of its answer: the one behind what the function is given.
+    fn answer_place(self) -> usize {
+        match self {
+            Function::Assemble => 6,
+            Function::Open | Function::Encode => 2,
+            Function::Next | Function::Row | Function::Write => 3,
+        }
     }
-}
 
-// What the port's function answers for a line whose first field of text is given.
-fn put_answer(function: usize, line: &[u8], given: &[u8]) -> Answer {
-    let room = count_of(parted(line, TAB, 2));
-    match function {
-        0 => assembling::put_assemble(line, given),
-        1 => reading::put_open(line, given),
-        2 => reading::put_next(line, given),
-        3 => reading::put_encode(given),
-        4 => reading::put_row(given, room),
-        5 => reading::put_write(given, room),
-        _ => answers::put_head(DIFFERS, 0),
+    // Writes what the port's function answers for a line whose first field of text is given, and answers the refusal.
+    fn write_answer(self, out: &mut impl Write, line: &[u8], given: &[u8]) -> io::Result<u64> {
+        let room = count_of(field(line, 2)).unwrap_or(0);
+        match self {
+            Function::Assemble => assembling::write_assemble(out, line, given),
+            Function::Open => reading::write_open(out, line, given),
+            Function::Next => reading::write_next(out, line, given),
+            Function::Encode => reading::write_encode(out, given),
+            Function::Row => reading::write_row(out, given, room),
+            Function::Write => reading::write_write(out, given, room),
+        }
     }
 }
 
-// Where the tally counts a case whose line says this answer, if the port answers so.
-fn verdict(said: &[u8], answer: Answer) -> u64 {
-    if is_said(answer, said) {
-        return answer.refusal;
+impl Tally {
+    // No case.
+    fn new() -> Tally {
+        Tally {
+            cases: 0,
+            differ: 0,
+            agree: [0; 26],
+        }
     }
-    DIFFERS
+
+    // Counts a case that agrees with the port's refusal, or none, which differs.
+    fn count(&mut self, agreed: Option<u64>) {
+        self.cases = self.cases.saturating_add(1);
+        match agreed {
+            Some(refusal) => {
+                if let Some(count) = self.agree.get_mut(refusal as usize) {
+                    *count = count.saturating_add(1);
+                }
+            }
+            None => self.differ = self.differ.saturating_add(1),
+        }
+    }
+
+    // Prints the counts.
+    fn print(&self, rt: &impl Print) -> io::Result<()> {
+        let Tally {
+            cases,
+            differ,
+            agree,
+        } = *self;
+        print!(rt; "{cases} cases, {differ} differ\naccepted: {}", agree[0])?;
+        for (refusal, count) in agree.iter().enumerate().skip(1) {
+            if *count != 0 {
+                print!(rt; "\nrefusal {refusal}: {count}")?;
+            }
+        }
+        rt.write_all(b"\n")
+    }
 }
 
-// Where the tally counts a line's case.
-fn run_case(line: &[u8]) -> u64 {
-    let function = function_of(line);
-    let start = start_of(line, TAB, answer_place(function));
+// Whether an answer is what fields of text say.
+fn is_said(answer: &[u8], said: &[u8]) -> bool {
+    let mut text = [0u8; 4096];
+    unescape(said, &mut text).is_some_and(|bytes| bytes == answer)
+}
+
+// The port's refusal, 0 where it accepts, if it answers as a line says; none where the two differ.
+fn run_case(line: &[u8]) -> Option<u64> {
+    let function = Function::named(field(line, 0))?;
     let mut space = [0u8; 524300];
-    let n = unescape(parted(line, TAB, 1), &mut space);
-    if 524300 < n {
-        return DIFFERS;
-    }
-    verdict(
-        part(line, start, line.len()),
-        put_answer(function, line, part(&space, 0, n)),
-    )
-}
-
-// Prints some bytes and a number.
-fn print_count(rt: &impl Print, before: &[u8], n: u64) -> io::Result<()> {
-    rt.write_all(before)?;
-    rt.print(n)
-}
-
-// The tally with one more at a place.
-fn count_at(tally: Tally, place: u64) -> Tally {
-    let mut counted = tally;
-    if 100 <= place {
-        return counted;
-    }
-    let i = place as usize;
-    counted.counts[i] = (counted.counts[i] % 1000000) + 1;
-    counted
+    let given = unescape(field(line, 1), &mut space)?;
+    let mut answer = [0u8; 4096];
+    let mut rest = answer.as_mut_slice();
+    let refusal = function.write_answer(&mut rest, line, given).ok()?;
+    let n = 4096usize.checked_sub(rest.len())?;
+    let said = fields_from(line, function.answer_place());
+    is_said(&answer[..n], said).then_some(refusal)
 }
 
 // Runs a line's case, unless it is a comment, and counts it.
-fn run_line(rt: &impl Print, line: &[u8], number: u64, tally: Tally) -> io::Result<Tally> {
-    if line.len() != 0 {
-        if line[0] == b'#' {
-            return Ok(tally);
-        }
+fn run_line(rt: &impl Print, line: &[u8], number: u64, tally: &mut Tally) -> io::Result<()> {
+    if line.starts_with(b"#") {
+        return Ok(());
     }
-    let place = run_case(line);
-    if place == DIFFERS {
-        print_count(rt, b"line ", number)?;
-        rt.write_all(b" differs\n")?;
+    let agreed = run_case(line);
+    tally.count(agreed);
+    match agreed {
+        Some(_) => Ok(()),
+        None => println!(rt; "line {number} differs"),
     }
-    Ok(count_at(count_at(tally, place), CASES))
 }
 
 // Runs the cases of a file and counts them.
 fn run_lines(rt: &impl Print, file: &[u8]) -> io::Result<Tally> {
-    let counts = [0u64; 100];
-    let mut tally = Tally { counts };
-    let mut at: usize = 0;
-    let mut number: u64 = 1;
-    while at < file.len() {
-        let end = mark_place(file, at, b'\n');
-        if end < at {
-            return Ok(tally);
-        }
-        tally = run_line(rt, part(file, at, end), number, tally)?;
-        at = end + 1;
-        number = (number % 1000000) + 1;
+    let mut tally = Tally::new();
+    let mut number: u64 = 0;
+    for line in file.split_inclusive(|byte| *byte == b'\n') {
+        number = number.saturating_add(1);
+        run_line(
+            rt,
+            line.strip_suffix(b"\n").unwrap_or(line),
+            number,
+            &mut tally,
+        )?;
     }
     Ok(tally)
 }
 
-// Prints how many cases of each refusal agree.
-fn print_refusals(rt: &impl Print, counts: [u64; 100]) -> io::Result<()> {
-    let mut i: usize = 1;
-    while i < 26 {
-        if counts[i] != 0 {
-            print_count(rt, b"\nrefusal ", i as u64)?;
-            print_count(rt, b": ", counts[i])?;
-        }
-        i += 1;
-    }
-    rt.write_all(b"\n")
-}
-
-// Prints the counts.
-fn print_tally(rt: &impl Print, tally: Tally) -> io::Result<()> {
-    let counts = tally.counts;
-    print_count(rt, b"", counts[98])?;
-    print_count(rt, b" cases, ", counts[99])?;
-    print_count(rt, b" differ\naccepted: ", counts[0])?;
-    print_refusals(rt, counts)
-}
-
 // Runs the cases of the file that a reader gives, and prints the counts.
-fn run_file<R: Read>(rt: &impl Print, from: &mut R) -> io::Result<()> {
+fn run_file(rt: &impl Print, from: &mut impl Read) -> io::Result<()> {
     let mut file = [0u8; 262144];
     let n = input::read_full(from, &mut file)?;
-    let tally = run_lines(rt, part(&file, 0, n))?;
-    print_tally(rt, tally)
-}
-
-// Prints a file's name and what its cases come to, or, to the errors, why it does not open.
-fn run_named<W: Write>(rt: &(impl Files + Print), errors: &mut W, name: &[u8]) -> io::Result<()> {
-    match input::open_read(rt, name) {
-        Ok(mut file) => {
-            rt.write_all(name)?;
-            rt.write_all(b"\n")?;
-            run_file(rt, &mut file)
-        }
-        Err(error) => input::fail(errors, name, error),
-    }
-}
-
-// Runs each file that an argument names. An argument of more than 64 bytes counts as an empty one, which names no file.
-fn run_arguments<W: Write>(rt: &(impl Env + Files + Print), errors: &mut W) -> io::Result<()> {
-    for i in 1..usize::MAX {
-        let mut name = [0u8; 64];
-        match rt.arg(i, &mut name) {
-            Ok(n) => run_named(rt, errors, &name[..n])?,
-            Err(FillError::TooLong) => run_named(rt, errors, b"")?,
-            Err(FillError::NotPresent) => return Ok(()),
-        }
-    }
-    Ok(())
+    let tally = run_lines(rt, &file[..n])?;
+    tally.print(rt)
 }
 
 fn main(rt: HostRuntime) -> io::Result<()> {
-    run_arguments(&rt, &mut rt.stderr())
+    for i in 1..usize::MAX {
+        let mut buffer = [0u8; 64];
+        let Some(name) = input::argument(&rt, i, &mut buffer) else {
+            return Ok(());
+        };
+        if let Some(mut file) = input::open_named(&rt, &mut rt.stderr(), name)? {
+            run_file(&rt, &mut file)?;
+        }
+    }
+    Ok(())
 }

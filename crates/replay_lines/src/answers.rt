@@ -1,147 +1,83 @@
-// What the port answers, written as a line says it.
-use crate::fields::{FAULT, SPACE, TAB, part, unescape, within};
+// What the port answers, written as a line says it. Each writer puts its part behind what is written already; an error says that it does not fit, or that
+// the line cannot be read.
+use crate::fields::within;
 use ola_answers::OlaWritten;
 use ola_places::OlaInstruction;
-use text::ByteClass;
-use text_write::Put;
+use std::io;
+use std::io::{ErrorKind, Write};
 
-// An answer: its refusal, 0 where it is accepted, its bytes and how many they are, FAULT where they do not fit.
-#[derive(Clone, Copy)]
-pub struct Answer {
-    pub refusal: u64,
-    pub bytes: [u8; 4096],
-    pub count: usize,
-}
+// Why there is no answer to a line that cannot be read.
+pub const UNREAD: ErrorKind = ErrorKind::InvalidData;
 
-// The writers: each hands back the answer with what it put behind it.
-
-// One byte.
-pub fn put_byte(answer: Answer, byte: u8) -> Answer {
-    let mut out = answer;
-    let n = out.count;
-    if 4096 <= n {
-        out.count = FAULT;
-        return out;
-    }
-    out.bytes[n] = byte;
-    out.count = n + 1;
-    out
-}
-
-// Bytes as they are.
-pub fn put(answer: Answer, bytes: &[u8]) -> Answer {
-    let mut out = answer;
-    let mut i: usize = 0;
-    while i < bytes.len() {
-        out = put_byte(out, bytes[i]);
-        i += 1;
-    }
-    out
-}
-
-// What was put into a text, if it fits.
-fn put_done(answer: Answer, text: &[u8], done: Put) -> Answer {
-    match done {
-        Put::Count(n) => put(answer, part(text, 0, n)),
-        Put::Short => answer,
+// A word as a line of bytecode, behind a tab: a number with the fewest digits, a first word with sixteen.
+pub fn write_word(out: &mut impl Write, number: bool, word: u64) -> io::Result<()> {
+    if number {
+        write!(out, "\t{word:#x}")
+    } else {
+        write!(out, "\t{word:#018x}")
     }
 }
 
-// A number in decimal digits.
-pub fn put_number(answer: Answer, number: u64) -> Answer {
-    let mut digits = [0u8; 20];
-    let done = text_digits::put_decimal(&mut digits, 0, number);
-    put_done(answer, &digits, done)
-}
-
-// A word as a line of bytecode, behind a tab.
-pub fn put_word(answer: Answer, number: bool, word: u64) -> Answer {
-    let mut line = [0u8; 18];
-    let done = program_bytecode::put_line(&mut line, 0, number, word);
-    put_done(put_byte(answer, TAB), &line, done)
-}
-
-// A new answer: that a call was accepted, which refusal 0 says, or its refusal.
-pub fn put_head(refusal: u64, detail: u64) -> Answer {
-    let bytes = [0u8; 4096];
-    let answer = Answer {
-        refusal,
-        bytes,
-        count: 0,
-    };
+// That a call was accepted, which refusal 0 says, or its refusal.
+pub fn write_head(out: &mut impl Write, refusal: u64, detail: u64) -> io::Result<()> {
     if refusal == 0 {
-        return put(answer, b"accepted");
+        out.write_all(b"accepted")
+    } else {
+        write!(out, "refused\t{refusal}\t{detail}")
     }
-    let refused = put_number(put(answer, b"refused\t"), refusal);
-    put_number(put_byte(refused, TAB), detail)
 }
 
 // The space before the i-th item, from 0.
-pub fn put_space(answer: Answer, i: usize) -> Answer {
-    if i == 0 {
-        return answer;
-    }
-    put_byte(answer, SPACE)
+pub fn write_space(out: &mut impl Write, i: usize) -> io::Result<()> {
+    if i == 0 { Ok(()) } else { out.write_all(b" ") }
 }
 
 // A field of numbers, behind a tab.
-pub fn put_numbers(answer: Answer, numbers: &[u64]) -> Answer {
-    let mut out = put_byte(answer, TAB);
-    let mut i: usize = 0;
-    while i < numbers.len() {
-        out = put_number(put_space(out, i), numbers[i]);
-        i += 1;
+pub fn write_numbers(out: &mut impl Write, numbers: &[u64]) -> io::Result<()> {
+    out.write_all(b"\t")?;
+    for (i, number) in numbers.iter().enumerate() {
+        write_space(out, i)?;
+        write!(out, "{number}")?;
     }
-    out
+    Ok(())
 }
 
 // An instruction, behind a tab.
-pub fn put_instruction(answer: Answer, instruction: OlaInstruction) -> Answer {
-    let op0 = instruction.op0;
-    let op1 = instruction.op1;
-    let dst = instruction.dst;
-    let numbers = [
-        instruction.opcode as u64,
-        op0.content as u64,
-        op0.reg as u64,
-        op0.number,
-        op1.content as u64,
-        op1.reg as u64,
-        op1.number,
-        dst.content as u64,
-        dst.reg as u64,
-        dst.number,
-    ];
-    put_numbers(answer, &numbers)
+pub fn write_instruction(out: &mut impl Write, instruction: OlaInstruction) -> io::Result<()> {
+    let OlaInstruction {
+        opcode,
+        op0,
+        op1,
+        dst,
+    } = instruction;
+    write!(out, "\t{opcode}")?;
+    for place in [op0, op1, dst] {
+        write!(out, " {} {} {}", place.content, place.reg, place.number)?;
+    }
+    Ok(())
 }
 
-// What a writer answered, and what it wrote into a text that was zeros before; a refusal leaves it so.
-pub fn put_written(text: &[u8], written: OlaWritten) -> Answer {
-    let head = put_head(written.refusal, written.detail);
-    if written.refusal == 0 {
-        return put(put_byte(head, TAB), part(text, 0, written.written as usize));
+// What a writer answered, and what it wrote into a text that was zeros before; a refusal leaves it so. Answers the refusal.
+pub fn write_written(out: &mut impl Write, text: &[u8], written: OlaWritten) -> io::Result<u64> {
+    let OlaWritten {
+        refusal,
+        detail,
+        written,
+    } = written;
+    write_head(out, refusal, detail)?;
+    if refusal == 0 {
+        out.write_all(b"\t")?;
+        out.write_all(text.get(..written as usize).unwrap_or(&[]))?;
+    } else if text.iter().any(|byte| *byte != 0) {
+        out.write_all(text)?;
     }
-    if ByteClass::Is(0).scan(text) == text.len() {
-        return head;
-    }
-    put(head, text)
+    Ok(refusal)
 }
 
-// What the bytecode writer answers for words and a text of so many bytes, at most 4096.
-pub fn put_words(words: &[u64], room: usize) -> Answer {
+// What the bytecode writer answers for words and a text of so many bytes, at most 4096. Answers the refusal.
+pub fn write_words(out: &mut impl Write, words: &[u64], room: usize) -> io::Result<u64> {
     let n = within(room, 4096);
     let mut text = [0u8; 4096];
     let written = program_bytecode::write_bytecode(words, &mut text[..n]);
-    put_written(&text, ola_answers::written_out(written))
-}
-
-// Whether fields of text say an answer.
-pub fn is_said(answer: Answer, said: &[u8]) -> bool {
-    let mut text = [0u8; 4096];
-    let n = unescape(said, &mut text);
-    let bytes = answer.bytes;
-    if 4096 < answer.count {
-        return false;
-    }
-    text::same_bytes(part(&text, 0, n), part(&bytes, 0, answer.count))
+    write_written(out, &text, ola_answers::written_out(written))
 }

@@ -1,205 +1,132 @@
 // What a line says. Its fields are parted by tabs and the items of a field by spaces; in a field of text \n, \r, \t, \\ and \xNN stand for bytes,
 // and \*N; and a byte for N of that byte.
-ghost use Rattle.std.specs.Prelude.{◌≤◌, length};
+ghost use Rattle.std.specs.Prelude.{◌≤◌, length, IfSome};
 
-use text_read::Numeral;
+// What is written for a count or an address that is not there: no line says so large a count, and no text has so many lines.
+pub const NO_COUNT: usize = 1000000;
 
-// What stands for a count that cannot be read, and for the place after what does not fit: no line says so large a count, and no buffer has it.
-pub const FAULT: usize = 1000000;
-
-// What parts fields, what parts items, and what parts the two sides of an item.
-pub const TAB: u8 = b'\t';
-
-pub const SPACE: u8 = b' ';
-
-pub const EQUALS: u8 = b'=';
-
-// A byte of a text, how many times it stands there, and where the next one begins, 0 where this one cannot be read.
+// A byte of a text, how many times it stands there, and what is left behind it.
 #[derive(Clone, Copy)]
-struct Step {
+struct Step<'a> {
     byte: u8,
     times: usize,
-    next: usize,
-}
-
-// The first place of a byte from a place on, the text's end where it has none.
-pub fn mark_place(text: &[u8], at: usize, mark: u8) -> usize
-    ensures { result ≤ length text.now }
-{
-    let mut i = at;
-    while i < text.len() {
-        if text[i] == mark {
-            return i;
-        }
-        i += 1;
-    }
-    text.len()
-}
-
-// The part of a text from a place to another, empty where it has none.
-pub fn part<'a>(text: &'a [u8], start: usize, end: usize) -> &'a [u8] {
-    if end < start {
-        return &text[0..0];
-    }
-    if text.len() < end {
-        return &text[0..0];
-    }
-    &text[start..end]
-}
-
-// The first so many numbers, none where there are not so many.
-pub fn first_of<'a>(numbers: &'a [u64], n: usize) -> &'a [u64] {
-    if numbers.len() < n {
-        return &numbers[0..0];
-    }
-    &numbers[0..n]
+    rest: &'a [u8],
 }
 
 // A room, none where it is more than the most that there is.
 pub fn within(room: usize, most: usize) -> usize
     ensures { result ≤ most }
 {
-    if most < room {
-        return 0;
-    }
-    room
+    if room <= most { room } else { 0 }
 }
 
-// Where the k-th part begins, from 0, of those that a mark parts.
-pub fn start_of(text: &[u8], mark: u8, k: usize) -> usize {
-    let mut at: usize = 0;
-    let mut i: usize = 0;
-    while i < k {
-        at = mark_place(text, at, mark) + 1;
-        i += 1;
-    }
-    at
+// The k-th part, from 0, of those that a mark parts, empty where there are not so many.
+pub fn parted(text: &[u8], mark: u8, k: usize) -> &[u8] {
+    text.split(|byte| *byte == mark).nth(k).unwrap_or(&[])
 }
 
-// The k-th part.
-pub fn parted<'a>(text: &'a [u8], mark: u8, k: usize) -> &'a [u8] {
-    let start = start_of(text, mark, k);
-    let end = mark_place(text, start, mark);
-    part(text, start, end)
+// The k-th field of a line.
+pub fn field(line: &[u8], k: usize) -> &[u8] {
+    parted(line, b'\t', k)
 }
 
-// The count that was found, FAULT where none was.
-fn counted(found: Numeral) -> usize {
-    match found {
-        Numeral::Value(n) => n as usize,
-        Numeral::Nothing => FAULT,
-    }
+// The k-th field of a line and all that stand behind it.
+pub fn fields_from(line: &[u8], k: usize) -> &[u8] {
+    line.splitn(k.saturating_add(1), |byte| *byte == b'\t')
+        .nth(k)
+        .unwrap_or(&[])
+}
+
+// The k-th item of a field.
+pub fn item(list: &[u8], k: usize) -> &[u8] {
+    parted(list, b' ', k)
+}
+
+// What stands before the equals sign of an item.
+pub fn named(item: &[u8]) -> &[u8] {
+    parted(item, b'=', 0)
 }
 
 // The count that digits say.
-pub fn count_of(digits: &[u8]) -> usize {
-    let found = text_read::read_decimal(digits, 999999);
-    counted(found)
+pub fn count_of(digits: &[u8]) -> Option<usize> {
+    let count = text_read::read_decimal(digits, 999999)?;
+    Some(count as usize)
 }
 
 // A number in decimal digits, or in hexadecimal ones behind `0x`.
-pub fn read_number(digits: &[u8]) -> Numeral {
-    if 2 < digits.len() {
-        if digits[1] == b'x' {
-            return text_read::read_hexadecimal(digits, 0xFFFF_FFFF_FFFF_FFFF);
-        }
+pub fn read_number(digits: &[u8]) -> Option<u64> {
+    match digits {
+        [_, b'x', _, ..] => text_read::read_hexadecimal(digits, u64::MAX),
+        _ => text_read::read_decimal(digits, u64::MAX),
     }
-    text_read::read_decimal(digits, 0xFFFF_FFFF_FFFF_FFFF)
 }
 
-// A byte that stands there once; 0 for next says that none can be read.
-fn one_byte(byte: u8, next: usize) -> Step {
-    Step {
+// A byte of two hexadecimal digits.
+fn hexadecimal(text: &[u8]) -> Option<Step<'_>>
+    ensures { IfSome result (λ s. length s.rest.now ≤ length text.now) }
+{
+    let (digits, rest) = text.split_at_checked(2)?;
+    let byte = u8::try_from(text_read::read_hexadecimal(digits, 255)?).ok()?;
+    Some(Step {
         byte,
         times: 1,
-        next,
-    }
+        rest,
+    })
 }
 
-// A byte behind the count that begins here and ends at a semicolon.
-fn read_times(text: &[u8], at: usize) -> Step {
-    let end = mark_place(text, at, b';');
-    let times = count_of(part(text, at, end));
-    let place = end + 1;
-    if text.len() <= place {
-        return one_byte(0, 0);
-    }
-    Step {
-        byte: text[place],
+// A byte behind its count, which ends at a semicolon.
+fn repeated(text: &[u8]) -> Option<Step<'_>>
+    ensures { IfSome result (λ s. length s.rest.now ≤ length text.now) }
+{
+    let end = text.iter().position(|byte| *byte == b';')?;
+    let times = count_of(&text[..end])?;
+    let (byte, rest) = text[end..][1..].split_first()?;
+    Some(Step {
+        byte: *byte,
         times,
-        next: place + 1,
-    }
+        rest,
+    })
 }
 
-// A byte of two hexadecimal digits that begin here.
-fn read_digits(text: &[u8], at: usize) -> Step {
-    if text.len() <= at {
-        return one_byte(0, 0);
-    }
-    let next = at + 2;
-    let found = text_read::read_hexadecimal(part(text, at, next), 255);
-    let n = counted(found);
-    if 255 < n {
-        return one_byte(0, 0);
-    }
-    one_byte(n as u8, next)
+// The byte that a letter behind `\` stands for, with what that letter takes of the text.
+fn escaped(text: &[u8]) -> Option<Step<'_>>
+    ensures { IfSome result (λ s. length s.rest.now ≤ length text.now) }
+{
+    let (letter, rest) = text.split_first()?;
+    let byte = match *letter {
+        b'n' => b'\n',
+        b'r' => b'\r',
+        b't' => b'\t',
+        b'\\' => b'\\',
+        b'x' => return hexadecimal(rest),
+        b'*' => return repeated(rest),
+        _ => return None,
+    };
+    Some(Step {
+        byte,
+        times: 1,
+        rest,
+    })
 }
 
-// The byte that begins here.
-fn read_byte(text: &[u8], at: usize) -> Step {
-    if text.len() <= at {
-        return one_byte(0, 0);
-    }
-    let place = at + 1;
-    if text[at] != b'\\' {
-        return one_byte(text[at], place);
-    }
-    if text.len() <= place {
-        return one_byte(0, 0);
-    }
-    let next = place + 1;
-    let letter = text[place];
-    match letter {
-        b'n' => one_byte(b'\n', next),
-        b'r' => one_byte(b'\r', next),
-        b't' => one_byte(b'\t', next),
-        b'\\' => one_byte(b'\\', next),
-        b'x' => read_digits(text, next),
-        b'*' => read_times(text, next),
-        _ => one_byte(0, 0),
-    }
-}
-
-// Puts a byte so many times from a place on, as long as there is room, and answers the place after.
-fn put_times(out: &mut [u8], at: usize, byte: u8, times: usize) -> usize {
-    let mut n = at;
-    let mut i: usize = 0;
-    while i < times {
-        if out.len() <= n {
-            return n;
-        }
-        out[n] = byte;
-        n += 1;
-        i += 1;
-    }
-    n
-}
-
-// Puts the bytes that a field of text says, and answers how many; FAULT where it cannot be read or there is no byte of room left.
-pub fn unescape(text: &[u8], out: &mut [u8]) -> usize {
-    let mut at: usize = 0;
+// Puts the bytes that a field of text says, and answers them; none where it cannot be read or there is no byte of room left.
+pub fn unescape<'a>(text: &[u8], out: &'a mut [u8]) -> Option<&'a [u8]> {
+    let mut rest = text;
     let mut n: usize = 0;
-    while at < text.len() {
-        let step = read_byte(text, at);
-        let next = step.next;
-        if next <= at {
-            return FAULT;
-        }
-        n = put_times(out, n, step.byte, step.times);
-        at = next;
+    while let Some((byte, tail)) = rest.split_first() {
+        let step = if *byte == b'\\' {
+            escaped(tail)?
+        } else {
+            Step {
+                byte: *byte,
+                times: 1,
+                rest: tail,
+            }
+        };
+        let end = n.checked_add(step.times)?;
+        out.get_mut(n..end)?.fill(step.byte);
+        n = end;
+        rest = step.rest;
     }
-    if out.len() <= n {
-        return FAULT;
-    }
-    n
+    if n < out.len() { Some(&out[..n]) } else { None }
 }

@@ -1,6 +1,5 @@
 -- 02, Point 7, "Source from bytecode": `main:` and one row an instruction; refusal 26.
-use Rattle.std.specs.Prelude.{ℕ, suc, List, [], ◌∷◌, ◌++◌, map, Bool, true, false, ◌||◌, cond}
-use Rattle.std.proofs.Math.Option.{Option, none, some}
+use Rattle.std.specs.Prelude.{ℕ, suc, List, [], ◌∷◌, ◌++◌, map, Bool, true, false, ◌||◌, cond, Option, Some, None, Result, Ok, Err}
 use Rattle.text.specs.Bytes.{bytes}
 use Rattle.text.specs.Answer.{Answer, ok, refused, ◌>>=◌, ◌>>◌, refuse_at}
 use Rattle.text_write.specs.Digits.{decimal_text}
@@ -17,8 +16,6 @@ use Rattle.program.specs.declared.BinaryInstruction.{BinaryInstruction}
 use Rattle.decoder.specs.Open.{opened, open_number, open_detail}
 use Rattle.source.specs.declared.SourceRefusal.{SourceRefusal}
 use Rattle.source.specs.declared.SourceRefusal.TheVariants.{Open, OffRow, TextTooShort}
-use Rattle.source.specs.declared.SourceWritten.{SourceWritten}
-use Rattle.source.specs.declared.SourceWritten.TheVariants.{Is, Refused}
 
 -- ---- a row
 
@@ -83,8 +80,8 @@ is_off_row i = off_row (row_places i.opcode) i
 
 -- "the index of the first such instruction", counted from k
 unfoldable pub first_off_row : ℕ → List BinaryInstruction → Option ℕ
-first_off_row k [] = none
-first_off_row k (i ∷ is) = let later = first_off_row (suc k) is in cond (is_off_row i) (some k) later
+first_off_row k [] = None
+first_off_row k (i ∷ is) = let later = first_off_row (suc k) is in cond (is_off_row i) (Some k) later
 
 -- ---- writing
 
@@ -106,6 +103,6 @@ source_refusal_detail (OffRow index) = index
 source_refusal_detail TextTooShort = 0
 
 -- an answer by its number and detail, or its count
-abbrev pub source_numbered : SourceWritten → Answer ℕ
-source_numbered (Is n) = ok n
-source_numbered (Refused f) = refused (source_refusal_number f) (source_refusal_detail f)
+abbrev pub source_numbered : Result ℕ SourceRefusal → Answer ℕ
+source_numbered (Ok n) = ok n
+source_numbered (Err f) = refused (source_refusal_number f) (source_refusal_detail f)

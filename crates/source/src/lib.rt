@@ -13,10 +13,3 @@ pub enum SourceRefusal {
     // 23: the lent text is too short.
     TextTooShort,
 }
-
-// How many bytes were written, or why none.
-#[derive(Clone, Copy)]
-pub enum SourceWritten {
-    Is(usize),
-    Refused(SourceRefusal),
-}

@@ -1,9 +1,9 @@
 -- The instructions of any text that opens, as canonical: how many words they have, and that they read back as they were read.
+use Rattle.std.specs.Prelude.{Option, Some, None}
 use Prim.Native.Nat.{ℕ, suc, ◌+◌, ◌≤◌}
 use mathlib.Core.Path.{◌≡◌, refl, ap, ap₂, subst}
 use mathlib.Core.List.{List, [], ◌∷◌, map}
 use mathlib.Core.Bool.{Bool, true, false, cond}
-use mathlib.Core.Option.{Option, none, some}
 use native.Mathlib.Omega.{arith}
 use lib.Dec.{lit≤}
 use lib.ListN.{length, length-append}
@@ -12,19 +12,11 @@ use Rattle.text.specs.Lines.{lines}
 use Rattle.text.specs.Answer.{ok, refused}
 use Rattle.text.proofs.AnswerLaws.{not_ok, ok_same, ok_bind, if_passed, at_passed}
 use Rattle.text.proofs.SumLaws.{total_most}
-use Rattle.text_read.specs.declared.Numeral.{Numeral}
-use Rattle.text_read.specs.declared.Numeral.TheVariants.{Value, Nothing as NoNumeral}
 use Rattle.vm_opcodes.specs.Operations.{bit, operation_in}
 use Rattle.vm_opcodes.specs.declared.OlaOpcode.{OlaOpcode}
-use Rattle.vm_opcodes.specs.declared.OpcodeFound.{OpcodeFound}
-use Rattle.vm_opcodes.specs.declared.OpcodeFound.TheVariants.{Is as IsOpcode, Nothing as NoOpcode}
 use Rattle.vm_hardware.specs.Registers.{register_in}
 use Rattle.vm_hardware.specs.declared.Place.TheVariants.{Op0, Op1, Dst}
-use Rattle.vm_hardware.specs.declared.RegisterFound.{RegisterFound}
-use Rattle.vm_hardware.specs.declared.RegisterFound.TheVariants.{Is as IsRegister, Nothing as NoRegister}
 use Rattle.vm_operands.specs.declared.ImmediateValue.{ImmediateValue}
-use Rattle.vm_operands.specs.declared.ImmediateFound.{ImmediateFound}
-use Rattle.vm_operands.specs.declared.ImmediateFound.TheVariants.{Is as IsNumber, Nothing as NoNumber}
 use Rattle.vm_operands.specs.declared.OlaOperand.{OlaOperand}
 use Rattle.vm_operands.specs.declared.OlaOperand.TheVariants.{Empty, ImmediateOperand}
 use Rattle.program.specs.Instructions.{made, is_memory, carried}
@@ -38,6 +30,7 @@ use Rattle.decoder.specs.Open.{all_decoded, opened}
 use Rattle.decoder.proofs.RoundTrip.{missing_empty}
 use Rattle.source_laws.proofs.RowLengths.{held, weighed}
 use Rattle.source_laws.proofs.LengthLaws.{opened_most}
+use Rattle.vm_hardware.specs.declared.OlaRegister.{OlaRegister}
 
 -- as canonical the instruction has at most n words and reads back
 abbrev Again : ℕ → BinaryInstruction → Type 0
@@ -46,19 +39,19 @@ Again n i = (length (words_of (as_canonical i)) ≤ n) × (as_read (as_canonical
 -- ---- read without a number
 
 -- a place holds no number
-none_carried : (f : RegisterFound) → carried (register_or Empty f) ≡ none
-none_carried (IsRegister r) = refl
-none_carried NoRegister = refl
+none_carried : (f : Option OlaRegister) → carried (register_or Empty f) ≡ None
+none_carried (Some r) = refl
+none_carried None = refl
 
 module _ (o : OlaOpcode) where
-  op1_none : (f : RegisterFound) → carried (op1_as_canonical o (register_or (missing_op1 o) f)) ≡ none
-  op1_none (IsRegister r) = refl
-  op1_none NoRegister = ap carried (missing_empty o)
+  op1_none : (f : Option OlaRegister) → carried (op1_as_canonical o (register_or (missing_op1 o) f)) ≡ None
+  op1_none (Some r) = refl
+  op1_none None = ap carried (missing_empty o)
 
   -- op1 reads as it did: empty, or psp in mov
-  op1_again : (f : RegisterFound) → op1_as_read o (op1_as_canonical o (register_or (missing_op1 o) f)) ≡ register_or (missing_op1 o) f
-  op1_again (IsRegister r) = refl
-  op1_again NoRegister = ap (op1_as_read o) (missing_empty o)
+  op1_again : (f : Option OlaRegister) → op1_as_read o (op1_as_canonical o (register_or (missing_op1 o) f)) ≡ register_or (missing_op1 o) f
+  op1_again (Some r) = refl
+  op1_again None = ap (op1_as_read o) (missing_empty o)
 
   alone_again : (w : ℕ) → Again 1 (built_alone o w)
   alone_again w = (
@@ -73,46 +66,46 @@ words_two : (i : BinaryInstruction) → length (words_of i) ≤ 2
 words_two i = go (second_word i)
   where
     go : (v : Option ℕ) → length (in_order (first_word i) v) ≤ 2
-    go none = lit≤ tt
-    go (some v) = lit≤ tt
+    go None = lit≤ tt
+    go (Some v) = lit≤ tt
 
 module _ (k : ℕ) (i : BinaryInstruction) where
   -- what was read is the instruction
   same_again : (j : BinaryInstruction) → as_read (as_canonical j) ≡ j → ok j ≡ ok i → Again 2 i
   same_again j a e = (words_two (as_canonical i), subst (λ (b : BinaryInstruction). as_read (as_canonical b) ≡ b) (ok_same e) a)
 
-  memory_again : (o : OlaOpcode) (v : ImmediateValue) (t : Bool) (dst op0 op1 : RegisterFound) → memory_built k o v t dst op0 op1 ≡ ok i → Again 2 i
+  memory_again : (o : OlaOpcode) (v : ImmediateValue) (t : Bool) (dst op0 op1 : Option OlaRegister) → memory_built k o v t dst op0 op1 ≡ ok i → Again 2 i
   unfolding memory_built
-  memory_again o v t NoRegister op0 op1 e = absurd (not_ok e)
-  memory_again o v t (IsRegister d) NoRegister op1 e = absurd (not_ok e)
-  memory_again o v true (IsRegister d) (IsRegister a) op1 e = same_again _ refl e
-  memory_again o v false (IsRegister d) (IsRegister a) NoRegister e = absurd (not_ok e)
-  memory_again o v false (IsRegister d) (IsRegister a) (IsRegister b) e = same_again _ refl e
+  memory_again o v t None op0 op1 e = absurd (not_ok e)
+  memory_again o v t (Some d) None op1 e = absurd (not_ok e)
+  memory_again o v true (Some d) (Some a) op1 e = same_again _ refl e
+  memory_again o v false (Some d) (Some a) None e = absurd (not_ok e)
+  memory_again o v false (Some d) (Some a) (Some b) e = same_again _ refl e
 
-  number_again : (o : OlaOpcode) (w : ℕ) (n : ImmediateFound) → on_number k o w n ≡ ok i → Again 2 i
+  number_again : (o : OlaOpcode) (w : ℕ) (n : Option ImmediateValue) → on_number k o w n ≡ ok i → Again 2 i
   unfolding built_with on_number
-  number_again o w NoNumber e = absurd (not_ok e)
-  number_again o w (IsNumber v) e = go (is_memory o) e
+  number_again o w None e = absurd (not_ok e)
+  number_again o w (Some v) e = go (is_memory o) e
     where
       go : (t : Bool) → cond t (memory_in k o w v) (ok (made o (content_in Op0 w) (ImmediateOperand v) (content_in Dst w))) ≡ ok i → Again 2 i
       go true e = memory_again o v (bit 62 w) (register_in Dst w) (register_in Op0 w) (register_in Op1 w) e
       go false e = same_again _ refl e
 
   -- a word for its first line, and one for its second where it has one
-  operation_again : (w : ℕ) (p : OpcodeFound) (second : Option (List ℕ)) → on_operation k w p second ≡ ok i → Again (1 + held (λ (l : List ℕ). 1) second) i
+  operation_again : (w : ℕ) (p : Option OlaOpcode) (second : Option (List ℕ)) → on_operation k w p second ≡ ok i → Again (1 + held (λ (l : List ℕ). 1) second) i
   unfolding on_operation
-  operation_again w NoOpcode second e = absurd (not_ok e)
-  operation_again w (IsOpcode o) none e = subst (Again 1) (ok_same e) (alone_again o w)
-  operation_again w (IsOpcode o) (some l) e = go (two_due o w) e
+  operation_again w None second e = absurd (not_ok e)
+  operation_again w (Some o) None e = subst (Again 1) (ok_same e) (alone_again o w)
+  operation_again w (Some o) (Some l) e = go (two_due o w) e
     where
       go : (t : Bool) → cond t (on_number k o w (second_of_line l)) (refused 17 k) ≡ ok i → Again 2 i
       go true e = number_again o w (second_of_line l) e
       go false e = absurd (not_ok e)
 
-  first_again : (n : Numeral) (second : Option (List ℕ)) → on_first k n second ≡ ok i → Again (1 + held (λ (l : List ℕ). 1) second) i
+  first_again : (n : Option ℕ) (second : Option (List ℕ)) → on_first k n second ≡ ok i → Again (1 + held (λ (l : List ℕ). 1) second) i
   unfolding on_first
-  first_again NoNumeral second e = absurd (not_ok e)
-  first_again (Value w) second e = operation_again w (operation_in w) second e
+  first_again None second e = absurd (not_ok e)
+  first_again (Some w) second e = operation_again w (operation_in w) second e
 
 group_again : (k : ℕ) (g : Group (List ℕ)) (i : BinaryInstruction) → group_decoded k g ≡ ok i → Again (weighed (λ l. 1) g) i
 group_again k g i e = first_again k i (first_of_line g.first) g.second e

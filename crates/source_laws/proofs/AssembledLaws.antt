@@ -1,9 +1,9 @@
 -- A written source assembles to the program that it was written of.
+use Rattle.std.specs.Prelude.{Some, None}
 use Prim.Native.Nat.{ℕ, suc, ◌+◌, ◌≤◌}
 use mathlib.Core.Path.{◌≡◌, refl, ap, ap₂, ◌∙◌}
 use mathlib.Core.List.{List, [], ◌∷◌, ◌++◌, append-nil, map}
 use mathlib.Core.Bool.{Bool, true, false, not, and-eq-true_iff}
-use mathlib.Core.Option.{none}
 use native.Mathlib.Omega.{arith}
 use borrow.Author.Tests.{leb-true, le-leb, le-ltb}
 use lib.Dec.{leb}
@@ -19,7 +19,6 @@ use Rattle.asm.specs.Rows.{is_call_row, label_row, row_of, read_rows, instructio
 use Rattle.asm.specs.declared.OlaAsmInstruction.{OlaAsmInstruction}
 use Rattle.asm.specs.declared.AsmRow.{AsmRow}
 use Rattle.asm.specs.declared.AsmRow.TheVariants.{Instruction, LabelCall}
-use Rattle.asm.specs.declared.RowRead.TheVariants.{Is}
 use Rattle.asm_laws.proofs.MoveLaws.{parts_joined}
 use Rattle.relocate.specs.Scopes.{cut_at_calls, scopes_that, rows_of_scopes, sorted_rows, main_count}
 use Rattle.relocate.specs.Labels.{label_rows}
@@ -61,7 +60,7 @@ lines_ascii (l ∷ m ∷ ls) (one_more h c) =
     all_joined is_ascii l (10 ∷ joined (m ∷ ls)) (all_else is_row_byte is_ascii not_above l h) (lines_ascii (m ∷ ls) c)
 
 -- refusal 2 finds none
-none_above : (k : ℕ) (s : List ℕ) → all is_ascii s ≡ true → first_above127 k s ≡ none
+none_above : (k : ℕ) (s : List ℕ) → all is_ascii s ≡ true → first_above127 k s ≡ None
 unfolding first_above127 all
 none_above k [] h = refl
 none_above k (b ∷ bs) h =
@@ -96,13 +95,13 @@ rows_of none_left = []
 rows_of (one_more h hs) = h.row ∷ rows_of hs
 
 -- a line that is read as a row has a piece
-read_some : (ps : List Part) (r : AsmRow) → row_of ps ≡ Is r → is_empty ps ≡ false
+read_some : (ps : List Part) (r : AsmRow) → row_of ps ≡ Some r → is_empty ps ≡ false
 unfolding row_of
 read_some [] r e = let z : ◌≡◌ {A = ℕ} 0 1 = cc in absurd (omega arith)
 read_some (q ∷ qs) r e = refl
 
 -- a line that is read, and those after it
-line_read : (k : ℕ) (q : Part) (qs : List Part) (r : AsmRow) (rows : List AsmRow) → row_of (line_pieces q) ≡ Is r → read_rows (suc k) (row_pieces qs) ≡ ok rows
+line_read : (k : ℕ) (q : Part) (qs : List Part) (r : AsmRow) (rows : List AsmRow) → row_of (line_pieces q) ≡ Some r → read_rows (suc k) (row_pieces qs) ≡ ok rows
     → read_rows k (row_pieces (q ∷ qs)) ≡ ok (r ∷ rows)
 unfolding row_pieces read_rows ◌>>=◌
 line_read k q qs r rows e f = rw (read_some (line_pieces q) r e, e, f)
@@ -121,7 +120,7 @@ abbrev main_rows : ℕ → ℕ → List OlaAsmInstruction → List AsmRow
 main_rows start n is = LabelCall start n ∷ map Instruction is
 
 -- `main:` is a call label
-main_read : row_of (line_pieces (record { start = 0; text = bytes "main:" })) ≡ Is (LabelCall 0 4)
+main_read : row_of (line_pieces (record { start = 0; text = bytes "main:" })) ≡ Some (LabelCall 0 4)
 unfolding row_of line_pieces pieces_from filled_parts placed parts scan is_space label_row is_call_row is_word is_letter is_digit same
 main_read = refl
 
@@ -183,7 +182,7 @@ module _ (start n : ℕ) (is : List OlaAsmInstruction) where
 -- ---- refusals that do not come
 
 -- 1 to 6
-sorted_passed : (s : List ℕ) (rows : List AsmRow) → length s ≤ 65536 → first_above127 0 s ≡ none → read_rows 0 (source_pieces s) ≡ ok rows → is_empty rows ≡ false
+sorted_passed : (s : List ℕ) (rows : List AsmRow) → length s ≤ 65536 → first_above127 0 s ≡ None → read_rows 0 (source_pieces s) ≡ ok rows → is_empty rows ≡ false
     → main_count s rows ≡ 1 → sorted_of s ≡ ok (sorted_rows s rows)
 unfolding sorted_of rows_read ◌>>=◌ ◌>>◌ refuse_if refuse_at
 sorted_passed s rows a b c d e = rw (le-ltb 65536 (length s) a, b, c, d, e)
@@ -200,7 +199,7 @@ hosts_none s rows prophets e = rw e
 
 -- 8 to 13 and 25
 assembled_passed : (s prophets : List ℕ) (room : Room) (rows : List AsmRow) (is : List BinaryInstruction) → tabled s room.entries ≡ ok rows
-    → hosts_of s rows prophets ≡ ok [] → canonical_program s rows ≡ ok is → first_misplaced 0 is ≡ none → length (program_words is) ≤ room.words
+    → hosts_of s rows prophets ≡ ok [] → canonical_program s rows ≡ ok is → first_misplaced 0 is ≡ None → length (program_words is) ≤ room.words
     → assembled s prophets room ≡ ok (record { labels = length (label_rows 0 rows); program = is; words = program_words is; hosts = [] })
 unfolding assembled encoded_rows ◌>>=◌ ◌>>◌ refuse_if refuse_at
 assembled_passed s prophets room rows is t h c m w =
@@ -215,7 +214,7 @@ program_canonical names k none_left = refl
 program_canonical names k (one_more h hs) = rw (h.canonical names k, program_canonical names (suc k) hs)
 
 -- none with a number in op0 or dst
-program_placed : (k : ℕ) {is : List BinaryInstruction} → All ReadsAs is → first_misplaced k is ≡ none
+program_placed : (k : ℕ) {is : List BinaryInstruction} → All ReadsAs is → first_misplaced k is ≡ None
 unfolding first_misplaced
 program_placed k none_left = refl
 program_placed k (one_more h hs) = rw (h.aside, program_placed (suc k) hs)
@@ -229,7 +228,7 @@ source_text_assembles is hs short prophets listed room entries words =
     let os : List OlaAsmInstruction = rows_of hs in
     let rows : List AsmRow = main_rows 0 4 os in
     let name : name_at s 0 4 ≡ bytes "main" = main_name (map source_row is) in
-    let above : first_above127 0 s ≡ none = none_above 0 s (lines_ascii (bytes "main:" ∷ map source_row is) (written_lines hs)) in
+    let above : first_above127 0 s ≡ None = none_above 0 s (lines_ascii (bytes "main:" ∷ map source_row is) (written_lines hs)) in
     let sorted : sorted_of s ≡ ok rows = sorted_passed s rows short above (written_read hs) refl (one_main 0 4 os s name) ∙ ap ok (main_sorted 0 4 os s name) in
     let one : length (label_rows 0 rows) ≡ 1 = one_label 0 4 os in
     let canonical : canonical_program s rows ≡ ok is =

@@ -1,9 +1,9 @@
 -- How long a written source can be: 5 bytes, and 21 for each line of the bytecode; and 2,970,976 for any bytecode that opens.
+use Rattle.std.specs.Prelude.{Option, Some, None}
 use Prim.Native.Nat.{ℕ, suc, ◌+◌, ◌*◌, ◌≤◌}
 use mathlib.Core.Path.{◌≡◌, refl, subst}
 use mathlib.Core.List.{List, [], ◌∷◌, map}
 use mathlib.Core.Bool.{Bool, true, false, cond}
-use mathlib.Core.Option.{Option, none, some}
 use native.Mathlib.Omega.{arith}
 use native.Mathlib.Nat.{mul-add}
 use borrow.Author.Tests.{ltb-false}
@@ -70,14 +70,14 @@ module _ (cost : BinaryInstruction → ℕ) (u : List ℕ → ℕ) where
 
   grouped_total : (o : Option (List ℕ)) (ls : List (List ℕ)) → total (map (weighed u) (grouped line_has_second o ls)) ≡ held u o + total (map u ls)
   unfolding grouped total
-  grouped_total none [] = refl
-  grouped_total (some a) [] = omega arith
-  grouped_total (some a) (b ∷ bs) = let h = grouped_total none bs in omega arith
-  grouped_total none (a ∷ as') = go (line_has_second a) (grouped_total (some a) as') (grouped_total none as')
+  grouped_total None [] = refl
+  grouped_total (Some a) [] = omega arith
+  grouped_total (Some a) (b ∷ bs) = let h = grouped_total None bs in omega arith
+  grouped_total None (a ∷ as') = go (line_has_second a) (grouped_total (Some a) as') (grouped_total None as')
     where
-      go : (t : Bool) → total (map (weighed u) (grouped line_has_second (some a) as')) ≡ u a + total (map u as')
-          → total (map (weighed u) (grouped line_has_second none as')) ≡ 0 + total (map u as')
-          → total (map (weighed u) (let rest = grouped line_has_second (cond t (some a) none) as' in cond t rest (record { first = a; second = none } ∷ rest)))
+      go : (t : Bool) → total (map (weighed u) (grouped line_has_second (Some a) as')) ≡ u a + total (map u as')
+          → total (map (weighed u) (grouped line_has_second None as')) ≡ 0 + total (map u as')
+          → total (map (weighed u) (let rest = grouped line_has_second (cond t (Some a) None) as' in cond t rest (record { first = a; second = None } ∷ rest)))
           ≡ 0 + total (map u (a ∷ as'))
       go true x y = omega arith
       go false x y = omega arith
@@ -102,7 +102,7 @@ module _ (cost : BinaryInstruction → ℕ) (u : List ℕ → ℕ) where
         let b = at_passed _ _ _ is a.1 in
         let c = decoded_most 0 (complete_of (line_groups (lines text))) is b.1 in
         let d = complete_most (line_groups (lines text)) in
-        let g = grouped_total none (lines text) in
+        let g = grouped_total None (lines text) in
         (ltb-false max_bytecode_bytes (length text) a.0, omega arith)
 
 -- ---- the length of a source

@@ -1,15 +1,15 @@
 -- Refusal 26: what is found off its row, what writing a source then answers, and that no row of a source reads so.
+use Rattle.std.specs.Prelude.{Option, Some, None, slice_get}
 use Prim.Native.Nat.{ℕ, zero, suc, ◌+◌, ◌<◌, ◌≤◌}
 use mathlib.Core.Logic.{◌↔◌}
 use mathlib.Core.Path.{◌≡◌, refl, sym, ap, subst, ◌∙◌}
 use mathlib.Core.List.{List, [], ◌∷◌}
 use mathlib.Core.Bool.{Bool, true, false, cond}
-use mathlib.Core.Option.{Option, none, some, some-injective, none-ne-some, some-ne-none}
 use native.Mathlib.Omega.{arith}
 use native.Mathlib.Nat.{zero-add}
 use borrow.Author.Tests.{le-ltb}
 use lib.Dec.{ltb}
-use lib.ListN.{length, get_elem?}
+use lib.ListN.{length}
 use Rattle.text.specs.Answer.{ok, refused, ◌>>=◌, ◌>>◌, refuse_if, refuse_at}
 use Rattle.text.specs.All.{All, none_left, one_more}
 use Rattle.text.proofs.AnswerLaws.{ok_same, ok_bind, if_passed, at_passed}
@@ -24,7 +24,6 @@ use Rattle.asm.specs.declared.OlaAsmOperand.{OlaAsmOperand}
 use Rattle.asm.specs.declared.OlaAsmOperand.TheVariants.{Empty}
 use Rattle.asm.specs.declared.OlaAsmInstruction.{OlaAsmInstruction}
 use Rattle.asm.specs.declared.AsmRow.TheVariants.{Instruction}
-use Rattle.asm.specs.declared.RowRead.TheVariants.{Is}
 use Rattle.asm_laws.proofs.LengthLaws.{instruction_row_lem}
 use Rattle.asm_laws.proofs.ShapeLaws.{RowHolds}
 use Rattle.relocate_laws.proofs.LengthLaws.{sorted_instructions_lem}
@@ -36,71 +35,72 @@ use Rattle.encoder.proofs.Origins.{Resolved, anchored_counted, Origin, ordinary,
 use Rattle.encoder.proofs.AcceptedLaws.{accepted_rows, Pairs, no_pair, one_pair, canonical_pairs}
 use Rattle.decoder.specs.Open.{opened}
 use Rattle.source.specs.SourceText.{source_text, is_full, off_row, is_off_row, first_off_row, source_written}
+use Rattle.std.proofs.lemmas.Option.{none-some, same_Some}
 
 -- ---- the first that is off its row
 
 -- instruction k is off its row, and none before it is
 abbrev FirstOff : List BinaryInstruction → ℕ → Type 0
 FirstOff is k =
-    (i : BinaryInstruction) × (get_elem? is k ≡ some i) × (is_off_row i ≡ true)
-    × ((j : ℕ) → j < k → (b : BinaryInstruction) → get_elem? is j ≡ some b → is_off_row b ≡ false)
+    (i : BinaryInstruction) × (slice_get is k ≡ Some i) × (is_off_row i ≡ true)
+    × ((j : ℕ) → j < k → (b : BinaryInstruction) → slice_get is j ≡ Some b → is_off_row b ≡ false)
 
 -- one more instruction ahead, which is not off its row
 first_behind : (i : BinaryInstruction) (is : List BinaryInstruction) (k : ℕ) → is_off_row i ≡ false → FirstOff is k → FirstOff (i ∷ is) (suc k)
 first_behind i is k e (b, g, o, r) = (b, g, o, before)
   where
-    before : (j : ℕ) → j < suc k → (c : BinaryInstruction) → get_elem? (i ∷ is) j ≡ some c → is_off_row c ≡ false
-    before zero l c h = subst (λ (d : BinaryInstruction). is_off_row d ≡ false) (some-injective i c h) e
+    before : (j : ℕ) → j < suc k → (c : BinaryInstruction) → slice_get (i ∷ is) j ≡ Some c → is_off_row c ≡ false
+    before zero l c h = subst (λ (d : BinaryInstruction). is_off_row d ≡ false) (same_Some i c h) e
     before (suc j) l c h = r j (omega arith) c h
 
-first_found : (n : ℕ) (is : List BinaryInstruction) (k : ℕ) → first_off_row n is ≡ some k → (j : ℕ) × (k ≡ n + j) × FirstOff is j
+first_found : (n : ℕ) (is : List BinaryInstruction) (k : ℕ) → first_off_row n is ≡ Some k → (j : ℕ) × (k ≡ n + j) × FirstOff is j
 unfolding first_off_row
-first_found n [] k h = absurd (none-ne-some k h)
+first_found n [] k h = absurd (none-some k h)
 first_found n (i ∷ is) k h = go (is_off_row i) refl (first_found (suc n) is k) h
   where
-    go : (t : Bool) → is_off_row i ≡ t → (first_off_row (suc n) is ≡ some k → (j : ℕ) × (k ≡ suc n + j) × FirstOff is j)
-        → cond t (some n) (first_off_row (suc n) is) ≡ some k → (j : ℕ) × (k ≡ n + j) × FirstOff (i ∷ is) j
+    go : (t : Bool) → is_off_row i ≡ t → (first_off_row (suc n) is ≡ Some k → (j : ℕ) × (k ≡ suc n + j) × FirstOff is j)
+        → cond t (Some n) (first_off_row (suc n) is) ≡ Some k → (j : ℕ) × (k ≡ n + j) × FirstOff (i ∷ is) j
     go true e r h =
-        let s = some-injective n k h in
+        let s = same_Some n k h in
         (0, omega arith, (i, refl, e, λ j l b g. absurd (omega arith)))
     go false e r h = let x = r h in let s = x.1 in (suc x.0, omega arith, first_behind i is x.0 e x.2)
 
-found_first : (n : ℕ) (is : List BinaryInstruction) (k : ℕ) → FirstOff is k → first_off_row n is ≡ some (n + k)
+found_first : (n : ℕ) (is : List BinaryInstruction) (k : ℕ) → FirstOff is k → first_off_row n is ≡ Some (n + k)
 unfolding first_off_row
-found_first n [] k (b, g, o, r) = absurd (none-ne-some b g)
+found_first n [] k (b, g, o, r) = absurd (none-some b g)
 found_first n (i ∷ is) zero (b, g, o, r) =
-    let e : is_off_row i ≡ true = ap is_off_row (some-injective i b g) ∙ o in
+    let e : is_off_row i ≡ true = ap is_off_row (same_Some i b g) ∙ o in
     let z : n ≡ n + 0 = omega arith in
-    rw e (ap some z)
+    rw e (ap Some z)
 found_first n (i ∷ is) (suc k) (b, g, o, r) =
     let e : is_off_row i ≡ false = r 0 (omega arith) i refl in
     let z : suc n + k ≡ n + suc k = omega arith in
-    rw e (found_first (suc n) is k (b, g, o, λ j l c h. r (suc j) (omega arith) c h) ∙ ap some z)
+    rw e (found_first (suc n) is k (b, g, o, λ j l c h. r (suc j) (omega arith) c h) ∙ ap Some z)
 
 -- 26's index is that of the first instruction off its row
-pub first_off_row_lem : (is : List BinaryInstruction) (k : ℕ) → (first_off_row 0 is ≡ some k) ↔ FirstOff is k
+pub first_off_row_lem : (is : List BinaryInstruction) (k : ℕ) → (first_off_row 0 is ≡ Some k) ↔ FirstOff is k
 first_off_row_lem is k = (
   λ h. let x = first_found 0 is k h in subst (FirstOff is) (sym (x.1 ∙ zero-add x.0)) x.2,
-  λ f. found_first 0 is k f ∙ ap some (zero-add k),
+  λ f. found_first 0 is k f ∙ ap Some (zero-add k),
 )
 
-none_found : (n : ℕ) (is : List BinaryInstruction) → first_off_row n is ≡ none → All (λ i. is_off_row i ≡ false) is
+none_found : (n : ℕ) (is : List BinaryInstruction) → first_off_row n is ≡ None → All (λ i. is_off_row i ≡ false) is
 unfolding first_off_row
 none_found n [] h = none_left
 none_found n (i ∷ is) h = go (is_off_row i) refl (none_found (suc n) is) h
   where
-    go : (t : Bool) → is_off_row i ≡ t → (first_off_row (suc n) is ≡ none → All (λ i. is_off_row i ≡ false) is)
-        → cond t (some n) (first_off_row (suc n) is) ≡ none → All (λ i. is_off_row i ≡ false) (i ∷ is)
-    go true e r h = absurd (some-ne-none n h)
+    go : (t : Bool) → is_off_row i ≡ t → (first_off_row (suc n) is ≡ None → All (λ i. is_off_row i ≡ false) is)
+        → cond t (Some n) (first_off_row (suc n) is) ≡ None → All (λ i. is_off_row i ≡ false) (i ∷ is)
+    go true e r h = absurd (none-some n (sym h))
     go false e r h = one_more e (r h)
 
-found_none : (n : ℕ) (is : List BinaryInstruction) → All (λ i. is_off_row i ≡ false) is → first_off_row n is ≡ none
+found_none : (n : ℕ) (is : List BinaryInstruction) → All (λ i. is_off_row i ≡ false) is → first_off_row n is ≡ None
 unfolding first_off_row
 found_none n is none_left = refl
 found_none n is (one_more {xs = js} e h) = rw e (found_none (suc n) js h)
 
 -- there is none exactly where none is off its row
-pub none_off_row : (is : List BinaryInstruction) → (first_off_row 0 is ≡ none) ↔ All (λ i. is_off_row i ≡ false) is
+pub none_off_row : (is : List BinaryInstruction) → (first_off_row 0 is ≡ None) ↔ All (λ i. is_off_row i ≡ false) is
 none_off_row is = (none_found 0 is, found_none 0 is)
 
 -- ---- what writing answers
@@ -112,7 +112,7 @@ module _ (text : List ℕ) (is : List BinaryInstruction) (h : opened text ≡ ok
   opened_written room = rw h
 
   -- 26 comes, with index k, exactly where instruction k is the first off its row
-  pub source_refused : (room k : ℕ) → (source_written text room ≡ refused 26 k) ↔ (first_off_row 0 is ≡ some k)
+  pub source_refused : (room k : ℕ) → (source_written text room ≡ refused 26 k) ↔ (first_off_row 0 is ≡ Some k)
   unfolding ◌>>◌ refuse_at refuse_if within
   source_refused room k = (λ e. there (first_off_row 0 is) (sym (opened_written room) ∙ e), λ e. opened_written room ∙ rw e)
     where
@@ -121,23 +121,23 @@ module _ (text : List ℕ) (is : List BinaryInstruction) (h : opened text ≡ ok
       fits true e = let z : ◌≡◌ {A = ℕ} 23 26 = cc in omega arith
       fits false e = let z : ◌≡◌ {A = ℕ} 0 1 = cc in omega arith
 
-      there : (o : Option ℕ) → refuse_at o 26 >> within room (source_text is) ≡ refused 26 k → o ≡ some k
-      there none e = absurd (fits (ltb room (length (source_text is))) e)
-      there (some d) e = cc
+      there : (o : Option ℕ) → refuse_at o 26 >> within room (source_text is) ≡ refused 26 k → o ≡ Some k
+      there None e = absurd (fits (ltb room (length (source_text is))) e)
+      there (Some d) e = cc
 
   -- where none is off its row and the text fits, it is written
-  pub source_written_lem : (room : ℕ) → first_off_row 0 is ≡ none → length (source_text is) ≤ room → source_written text room ≡ ok (source_text is)
+  pub source_written_lem : (room : ℕ) → first_off_row 0 is ≡ None → length (source_text is) ≤ room → source_written text room ≡ ok (source_text is)
   unfolding ◌>>◌ refuse_at refuse_if within
   source_written_lem room e l = opened_written room ∙ rw (e, le-ltb room (length (source_text is)) l)
 
   -- where none is off its row, only the room is asked
-  pub on_rows_written : (room : ℕ) → first_off_row 0 is ≡ none → source_written text room ≡ within room (source_text is)
+  pub on_rows_written : (room : ℕ) → first_off_row 0 is ≡ None → source_written text room ≡ within room (source_text is)
   unfolding ◌>>◌ refuse_at
   on_rows_written room e = opened_written room ∙ rw e
 
 -- a source that was written: what was opened, with none off its row, and its text
 pub written_source : (text : List ℕ) (room : ℕ) (t : List ℕ) → source_written text room ≡ ok t
-    → (is : List BinaryInstruction) × (opened text ≡ ok is) × (first_off_row 0 is ≡ none) × (t ≡ source_text is)
+    → (is : List BinaryInstruction) × (opened text ≡ ok is) × (first_off_row 0 is ≡ None) × (t ≡ source_text is)
 unfolding source_written within
 written_source text room t e =
     let a = ok_bind (opened text) _ t e in
@@ -186,7 +186,7 @@ arranged_on o Op1 (a ∷ b ∷ c) = tt
 arranged_on o Bare [] = (refl, refl, refl)
 arranged_on o Bare (a ∷ b) = tt
 
-row_on : (ps : List Part) (i : OlaAsmInstruction) → row_of ps ≡ Is (Instruction i) → OnRow (row_places i.opcode) i
+row_on : (ps : List Part) (i : OlaAsmInstruction) → row_of ps ≡ Some (Instruction i) → OnRow (row_places i.opcode) i
 row_on ps i h =
     let r = instruction_row_lem ps i h in
     subst (RowHolds (OnRow (row_places i.opcode))) r.placed (arranged_on i.opcode (row_places i.opcode) r.operands)

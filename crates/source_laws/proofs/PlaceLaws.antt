@@ -1,4 +1,5 @@
 -- Each place of a written row reads as its operand: a register, psp, a number, `[rA,n]` and `[rA,rB,n]`.
+use Rattle.std.specs.Prelude.{Some, None}
 use Prim.Native.Nat.{ℕ, suc, ◌+◌, ◌-◌, ◌^◌, ◌<◌, ◌≤◌}
 use mathlib.Core.Path.{◌≡◌, refl, ap, ap₂, ◌∙◌}
 use mathlib.Core.List.{List, [], ◌∷◌, ◌++◌}
@@ -17,13 +18,10 @@ use Rattle.vm_hardware.specs.Registers.{registers, register_index, register_at, 
 use Rattle.vm_hardware.specs.declared.OlaRegister.{OlaRegister}
 use Rattle.vm_hardware.specs.declared.OlaRegister.TheVariants.{R0}
 use Rattle.vm_hardware.specs.declared.OlaSpecialRegister.TheVariants.{PSP}
-use Rattle.vm_hardware.specs.declared.RegisterFound.TheVariants.{Is as IsRegister, Nothing as NoRegister}
 use Rattle.vm_hardware.proofs.Laws.{index_lt, register_at_index, register_of_text}
 use Rattle.vm_operands.specs.Numbers.{order}
 use Rattle.vm_operands.specs.declared.ImmediateValue.{ImmediateValue}
-use Rattle.vm_operands.specs.declared.ImmediateFound.TheVariants.{Is as IsNumber}
 use Rattle.asm.specs.Operands.{shapes, first_match, operand_of, is_source_number, source_number}
-use Rattle.asm.specs.declared.OperandRead.TheVariants.{Is}
 use Rattle.asm.specs.declared.OlaAsmOperand.{OlaAsmOperand}
 use Rattle.asm.specs.declared.OlaAsmOperand.TheVariants.{ImmediateOperand, RegisterOperand, RegisterWithOffset, RegisterWithFactoredRegOffset, SpecialReg}
 use Rattle.asm_laws.proofs.SpellingLaws.{all_digits, some_digit, written_number, printed_reads}
@@ -32,7 +30,7 @@ use Rattle.source_laws.proofs.PieceLaws.{is_plain, Piece, all_else, all_joined}
 -- a piece that reads as an operand, wherever it starts
 pub record Reads (t : List ℕ) (o : OlaAsmOperand) : Type 0 where
   pub piece : Piece t
-  pub read : (i : ℕ) → operand_of (record { start = i; text = t }) ≡ Is o
+  pub read : (i : ℕ) → operand_of (record { start = i; text = t }) ≡ Some o
 
 -- ---- bytes
 
@@ -73,11 +71,11 @@ psp_reads = record { piece = record { some = refl; plain = refl }; read = λ i. 
 -- ---- numbers
 
 -- a text that begins with a digit is no register
-no_register : (x : ℕ) (s : List ℕ) → is_digit x ≡ true → register_of (x ∷ s) ≡ NoRegister
+no_register : (x : ℕ) (s : List ℕ) → is_digit x ≡ true → register_of (x ∷ s) ≡ None
 unfolding register_of is_digit
 no_register x s d = rw (other_byte is_digit x 114 d refl) (go (eqb (length (x ∷ s)) 2))
   where
-    go : (t : Bool) → cond (t && false && is_digit (get_or (x ∷ s) 1 0)) (IsRegister (register_at (get_or (x ∷ s) 1 0 - 48))) NoRegister ≡ NoRegister
+    go : (t : Bool) → cond (t && false && is_digit (get_or (x ∷ s) 1 0)) (Some (register_at (get_or (x ∷ s) 1 0 - 48))) None ≡ None
     go true = refl
     go false = refl
 
@@ -86,7 +84,7 @@ record Spells (t : List ℕ) (v : ImmediateValue) : Type 0 where
   pub some : is_empty t ≡ false
   pub digits : all is_digit t ≡ true
   pub shaped : is_source_number t ≡ true
-  pub value : source_number t ≡ IsNumber v
+  pub value : source_number t ≡ Some v
 
 decimal_read : (v : ImmediateValue) → v.number < order → Spells (decimal_text v.number) v
 decimal_read v h =
@@ -98,7 +96,7 @@ first_digit : (x : ℕ) (s : List ℕ) → all is_digit (x ∷ s) ≡ true → i
 unfolding all
 first_digit x s h = ((and-eq-true_iff (is_digit x) (all is_digit s)).0 h).0
 
-number_read : (i : ℕ) (t : List ℕ) (v : ImmediateValue) → Spells t v → operand_of (record { start = i; text = t }) ≡ Is (ImmediateOperand v)
+number_read : (i : ℕ) (t : List ℕ) (v : ImmediateValue) → Spells t v → operand_of (record { start = i; text = t }) ≡ Some (ImmediateOperand v)
 unfolding shapes first_match is_digit
 number_read i [] v h = absurd (true≢false h.some)
 number_read i (x ∷ s) v h = let d = first_digit x s h.digits in rw (other_byte is_digit x 91 d refl, no_register x s d, h.shaped, h.value)
@@ -123,7 +121,7 @@ closed_plain t h = all_joined is_plain t (93 ∷ []) (all_else is_digit is_plain
 
 -- `[rA,n]` by its bytes
 offset_read : (i d : ℕ) (t : List ℕ) (v : ImmediateValue) → is_digit d ≡ true → Spells t v
-    → operand_of (record { start = i; text = 91 ∷ 114 ∷ d ∷ 44 ∷ (t ++ 93 ∷ []) }) ≡ Is (RegisterWithOffset (register_at (d - 48)) v)
+    → operand_of (record { start = i; text = 91 ∷ 114 ∷ d ∷ 44 ∷ (t ++ 93 ∷ []) }) ≡ Some (RegisterWithOffset (register_at (d - 48)) v)
 unfolding shapes first_match is_digit
 offset_read i d [] v e h = absurd (true≢false h.some)
 offset_read i d (x ∷ s) v e h =
@@ -136,7 +134,7 @@ offset_read i d (x ∷ s) v e h =
 -- `[rA,rB,n]` by its bytes
 factored_read : (i d e : ℕ) (t : List ℕ) (v : ImmediateValue) → is_digit d ≡ true → is_digit e ≡ true → Spells t v
     → operand_of (record { start = i; text = 91 ∷ 114 ∷ d ∷ 44 ∷ 114 ∷ e ∷ 44 ∷ (t ++ 93 ∷ []) })
-    ≡ Is (RegisterWithFactoredRegOffset (register_at (d - 48)) (register_at (e - 48)) v)
+    ≡ Some (RegisterWithFactoredRegOffset (register_at (d - 48)) (register_at (e - 48)) v)
 unfolding shapes first_match
 factored_read i d e t v f g h =
     let n : length (t ++ 93 ∷ []) ≡ length t + 1 = length-append t (93 ∷ []) in
@@ -149,7 +147,7 @@ pub offset_reads : (a : OlaRegister) (v : ImmediateValue) → v.number < order
 unfolding all
 offset_reads a v h = record {
   piece = record { some = refl; plain = rw (digit_plain (digit_of a) (register_digit a)) (closed_plain (decimal_text v.number) (decimal_read v h).digits) };
-  read = λ i. offset_read i (digit_of a) (decimal_text v.number) v (register_digit a) (decimal_read v h) ∙ ap (λ (r : OlaRegister). Is (RegisterWithOffset r v)) (register_back a);
+  read = λ i. offset_read i (digit_of a) (decimal_text v.number) v (register_digit a) (decimal_read v h) ∙ ap (λ (r : OlaRegister). Some (RegisterWithOffset r v)) (register_back a);
 }
 
 -- two registers and a number in brackets read as the register with a factored one
@@ -163,5 +161,5 @@ factored_reads a b v h = record {
   };
   read = λ i.
       factored_read i (digit_of a) (digit_of b) (decimal_text v.number) v (register_digit a) (register_digit b) (decimal_read v h)
-      ∙ ap₂ (λ (r s : OlaRegister). Is (RegisterWithFactoredRegOffset r s v)) (register_back a) (register_back b);
+      ∙ ap₂ (λ (r s : OlaRegister). Some (RegisterWithFactoredRegOffset r s v)) (register_back a) (register_back b);
 }

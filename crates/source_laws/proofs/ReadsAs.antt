@@ -1,4 +1,5 @@
 -- What assembling asks of the source row of an instruction.
+use Rattle.std.specs.Prelude.{Some}
 use Prim.Native.Nat.{ℕ}
 use mathlib.Core.Path.{◌≡◌}
 use mathlib.Core.Bool.{Bool, true, false, ◌||◌}
@@ -9,7 +10,6 @@ use Rattle.asm.specs.Parts.{line_pieces}
 use Rattle.asm.specs.Rows.{row_of}
 use Rattle.asm.specs.declared.OlaAsmInstruction.{OlaAsmInstruction}
 use Rattle.asm.specs.declared.AsmRow.TheVariants.{Instruction}
-use Rattle.asm.specs.declared.RowRead.TheVariants.{Is}
 use Rattle.program.specs.Instructions.{is_number}
 use Rattle.program.specs.declared.BinaryInstruction.{BinaryInstruction}
 use Rattle.encoder.specs.Canonical.{Names, canonical_of}
@@ -22,7 +22,7 @@ is_row_byte b = within 32 126 b
 pub record ReadsAs (i : BinaryInstruction) : Type 0 where
   -- the instruction row that it is read as, wherever it starts
   pub row : OlaAsmInstruction
-  pub read : (start : ℕ) → row_of (line_pieces (record { start = start; text = source_row i })) ≡ Is (Instruction row)
+  pub read : (start : ℕ) → row_of (line_pieces (record { start = start; text = source_row i })) ≡ Some (Instruction row)
   -- its bytes
   pub bytes : all is_row_byte (source_row i) ≡ true
   -- its canonical instruction, whatever names there are

@@ -1,9 +1,9 @@
 -- A source row reads back as its instruction.
+use Rattle.std.specs.Prelude.{Option, Some, None}
 use Prim.Native.Nat.{ℕ, ◌+◌, ◌<◌}
 use mathlib.Core.Path.{◌≡◌, refl, sym, ap, ◌∙◌}
 use mathlib.Core.List.{List, [], ◌∷◌, ◌++◌}
 use mathlib.Core.Bool.{true, false, ◌||◌, true≢false}
-use mathlib.Core.Option.{Option, none, some}
 use lib.ListN.{length}
 use Rattle.text.specs.Bytes.{is_digit, is_letter, is_word, same}
 use Rattle.text.specs.Scan.{scan, all, is_empty}
@@ -12,8 +12,6 @@ use Rattle.text.specs.Answer.{ok, ◌>>=◌, ◌>>◌, refuse_at}
 use Rattle.text.proofs.Laws.{both_false}
 use Rattle.vm_opcodes.specs.Operations.{operations, row_places}
 use Rattle.vm_opcodes.specs.declared.OlaOpcode.{OlaOpcode}
-use Rattle.vm_opcodes.specs.declared.OpcodeFound.{OpcodeFound}
-use Rattle.vm_opcodes.specs.declared.OpcodeFound.TheVariants.{Is as IsOpcode}
 use Rattle.vm_opcodes.specs.declared.RowPlaces.{RowPlaces}
 use Rattle.vm_opcodes.specs.declared.RowPlaces.TheVariants.{DstOp0Op1, DstOp1, DstMemory, MemoryDst, Op0Op1, Op1, Bare}
 use Rattle.vm_opcodes.proofs.Laws.{agree}
@@ -48,9 +46,9 @@ unfolding operations all
 mnemonic_piece o = record { some = agree (λ o. false) (λ o. is_empty (mnemonic o)) true refl o; plain = agree (λ o. true) (λ o. all is_plain (mnemonic o)) false refl o }
 
 -- alone it is no label row
-no_label : (i : ℕ) (o : OlaOpcode) → label_row (record { start = i; text = mnemonic o }) ≡ none
+no_label : (i : ℕ) (o : OlaOpcode) → label_row (record { start = i; text = mnemonic o }) ≡ None
 unfolding operations label_row is_call_row is_pair_row scan same is_word is_letter is_digit
-no_label i = agree (λ o. none) (λ o. label_row (record { start = i; text = mnemonic o })) none refl
+no_label i = agree (λ o. None) (λ o. label_row (record { start = i; text = mnemonic o })) None refl
 
 -- ---- a row of pieces that read as operands
 
@@ -63,7 +61,7 @@ pieces_of : {ts : List (List ℕ)} {os : List OlaAsmOperand} → ReadAll ts os �
 pieces_of all_read = none_left
 pieces_of (one_read h r) = one_more h.piece (pieces_of r)
 
-operands_read : {ts : List (List ℕ)} {os : List OlaAsmOperand} → ReadAll ts os → (i : ℕ) → operands_of (placed i ts) ≡ some os
+operands_read : {ts : List (List ℕ)} {os : List OlaAsmOperand} → ReadAll ts os → (i : ℕ) → operands_of (placed i ts) ≡ Some os
 unfolding operands_of placed
 operands_read all_read i = refl
 operands_read (one_read {t = t} h r) i = rw (h.read i, operands_read r (i + (length t + 1)))
@@ -71,11 +69,11 @@ operands_read (one_read {t = t} h r) i = rw (h.read i, operands_read r (i + (len
 row_read : (o : OlaOpcode) {ts : List (List ℕ)} {os : List OlaAsmOperand} → ReadAll ts os → (i : ℕ) → row_of (placed i (mnemonic o ∷ ts)) ≡ arranged o (row_places o) os
 unfolding row_of placed arranged_if
 row_read o all_read i =
-    ap (λ (l : Option AsmRow). or_else_row l (arranged_if (operation_of (mnemonic o)) (some []))) (no_label i o)
-    ∙ ap (λ (f : OpcodeFound). arranged_if f (some [])) (read_back o)
+    ap (λ (l : Option AsmRow). or_else_row l (arranged_if (operation_of (mnemonic o)) (Some []))) (no_label i o)
+    ∙ ap (λ (f : Option OlaOpcode). arranged_if f (Some [])) (read_back o)
 row_read o (one_read {t = t} {ts = ts} h r) i =
-    ap (λ (f : OpcodeFound). arranged_if f (operands_of (placed (i + (length (mnemonic o) + 1)) (t ∷ ts)))) (read_back o)
-    ∙ ap (λ (x : Option (List OlaAsmOperand)). arranged_if (IsOpcode o) x) (operands_read (one_read h r) (i + (length (mnemonic o) + 1)))
+    ap (λ (f : Option OlaOpcode). arranged_if f (operands_of (placed (i + (length (mnemonic o) + 1)) (t ∷ ts)))) (read_back o)
+    ∙ ap (λ (x : Option (List OlaAsmOperand)). arranged_if (Some o) x) (operands_read (one_read h r) (i + (length (mnemonic o) + 1)))
 
 -- an instruction whose written places read as operands that, put into the row's places, are canonically the instruction
 module _ (i : BinaryInstruction) (p : RowPlaces) (e : row_places i.opcode ≡ p) where
@@ -111,8 +109,8 @@ record Back (c : OlaOperand) : Type 0 where
   pub means : Means operand c
 
 or_empty_back : (r : Option OlaRegister) → Back (or_empty r)
-or_empty_back none = record { operand = SpecialReg PSP; reads = psp_reads; means = record { unbracketed = refl; content = λ names k. refl } }
-or_empty_back (some r) = record { operand = RegisterOperand r; reads = register_reads r; means = record { unbracketed = refl; content = λ names k. refl } }
+or_empty_back None = record { operand = SpecialReg PSP; reads = psp_reads; means = record { unbracketed = refl; content = λ names k. refl } }
+or_empty_back (Some r) = record { operand = RegisterOperand r; reads = register_reads r; means = record { unbracketed = refl; content = λ names k. refl } }
 
 number_back : (v : ImmediateValue) → v.number < order → Back (ANumber v)
 number_back v h = record { operand = ImmediateOperand v; reads = number_reads v h; means = record { unbracketed = refl; content = λ names k. refl } }
@@ -177,12 +175,12 @@ module _ (o : OlaOpcode) (a d : OlaRegister) (c : OlaOperand) (x : OlaAsmOperand
 -- ---- every form
 
 no_number_aside : (a d : Option OlaRegister) → (is_number (or_empty a) || is_number (or_empty d)) ≡ false
-no_number_aside none none = refl
-no_number_aside none (some d) = refl
-no_number_aside (some a) none = refl
-no_number_aside (some a) (some d) = refl
+no_number_aside None None = refl
+no_number_aside None (Some d) = refl
+no_number_aside (Some a) None = refl
+no_number_aside (Some a) (Some d) = refl
 
-in_order : {v : ℕ} → BelowOrder (some v) → v < order
+in_order : {v : ℕ} → BelowOrder (Some v) → v < order
 in_order (below h) = h
 
 -- the source row of a canonical instruction that is not off its row reads as that instruction

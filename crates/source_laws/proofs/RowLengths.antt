@@ -1,9 +1,9 @@
 -- How many bytes the source row of an instruction takes, against the lines that it was read from.
+use Rattle.std.specs.Prelude.{Option, Some, None}
 use Prim.Native.Nat.{ℕ, suc, ◌+◌, ◌*◌, ◌/◌, ◌%◌, ◌^◌, ◌<◌, ◌≤◌}
 use mathlib.Core.Path.{◌≡◌, refl, sym, ap, subst}
 use mathlib.Core.List.{List, [], ◌∷◌, ◌++◌, map}
 use mathlib.Core.Bool.{Bool, true, false, not, ◌&&◌, ◌||◌, and-eq-true_iff, or-true, cond}
-use mathlib.Core.Option.{Option, none, some}
 use native.Mathlib.Omega.{arith}
 use native.Mathlib.Nat.{pow-suc, pow-le-pow_right, div-eq_of_lt}
 use borrow.Author.Tests.{eqb-true, leb-true, leb-false, ltb-true, ltb-false}
@@ -16,15 +16,11 @@ use Rattle.text.specs.Answer.{Answer, ok, refused}
 use Rattle.text.proofs.AnswerLaws.{not_ok, ok_same}
 use Rattle.text.proofs.SumLaws.{spaced}
 use Rattle.text_read.specs.Numerals.{digit_value, is_digit_of, value_from, numeral, unprefixed, without_plus, hexadecimal}
-use Rattle.text_read.specs.declared.Numeral.{Numeral}
-use Rattle.text_read.specs.declared.Numeral.TheVariants.{Value, Nothing as NoNumeral}
 use Rattle.text_read.proofs.Laws.{numeral_value}
 use Rattle.text_write.specs.Digits.{decimal_text}
 use Rattle.text_write.proofs.Laws.{decimal_most}
 use Rattle.vm_opcodes.specs.Operations.{operations, operation_bit, bit, operation_in, row_places}
 use Rattle.vm_opcodes.specs.declared.OlaOpcode.{OlaOpcode}
-use Rattle.vm_opcodes.specs.declared.OpcodeFound.{OpcodeFound}
-use Rattle.vm_opcodes.specs.declared.OpcodeFound.TheVariants.{Is as IsOpcode, Nothing as NoOpcode}
 use Rattle.vm_opcodes.specs.declared.RowPlaces.{RowPlaces}
 use Rattle.vm_opcodes.specs.declared.RowPlaces.TheVariants.{DstOp0Op1, DstOp1, DstMemory, MemoryDst, Op0Op1, Op1, Bare}
 use Rattle.vm_opcodes.proofs.Laws.{bit_least, every_operation, first_holds}
@@ -33,8 +29,6 @@ use Rattle.vm_hardware.specs.Registers.{register_in}
 use Rattle.vm_hardware.specs.declared.OlaRegister.{OlaRegister}
 use Rattle.vm_hardware.specs.declared.OlaSpecialRegister.TheVariants.{PC, PSP}
 use Rattle.vm_hardware.specs.declared.Place.TheVariants.{Op0, Op1 as Op1Place, Dst}
-use Rattle.vm_hardware.specs.declared.RegisterFound.{RegisterFound}
-use Rattle.vm_hardware.specs.declared.RegisterFound.TheVariants.{Is as IsRegister, Nothing as NoRegister}
 use Rattle.vm_operands.specs.Numbers.{order}
 use Rattle.vm_operands.specs.declared.OlaOperand.{OlaOperand}
 use Rattle.vm_operands.specs.declared.OlaOperand.TheVariants.{Empty, ImmediateOperand, RegisterOperand, RegisterWithOffset, RegisterWithFactor, SpecialReg}
@@ -112,8 +106,8 @@ module _ (i : BinaryInstruction) (h : length (place_source i.op0) ≤ 3) (k : le
 
 -- a register, or psp for an empty place
 register_most : (r : Option OlaRegister) → length (place_source (or_empty r)) ≤ 3
-register_most none = lit≤ tt
-register_most (some r) = lit≤ tt
+register_most None = lit≤ tt
+register_most (Some r) = lit≤ tt
 
 form_most : (i : BinaryInstruction) → CanonicalForm i → (length (place_source i.op0) ≤ 3) × (length (place_source i.dst) ≤ 3)
 form_most i (plain o a b d m) = (register_most a, register_most d)
@@ -143,13 +137,13 @@ read_most f i r =
     let c = content_most i.op1 r.order.op1 in
     omega arith
 
-found_most : (f : RegisterFound) → length (place_source (register_or Empty f)) ≤ 3
-found_most (IsRegister r) = lit≤ tt
-found_most NoRegister = lit≤ tt
+found_most : (f : Option OlaRegister) → length (place_source (register_or Empty f)) ≤ 3
+found_most (Some r) = lit≤ tt
+found_most None = lit≤ tt
 
-op1_most : (o : OlaOpcode) (f : RegisterFound) → length (place_source (register_or (missing_op1 o) f)) ≤ 3
-op1_most o (IsRegister r) = lit≤ tt
-op1_most o NoRegister = go (is_mov o)
+op1_most : (o : OlaOpcode) (f : Option OlaRegister) → length (place_source (register_or (missing_op1 o) f)) ≤ 3
+op1_most o (Some r) = lit≤ tt
+op1_most o None = go (is_mov o)
   where
     go : (t : Bool) → length (place_source (cond t (SpecialReg PSP) Empty)) ≤ 3
     go true = lit≤ tt
@@ -193,17 +187,17 @@ without_plus_le l = go (eqb (get_or l 0 0) 43)
     go true = let e = length-drop 1 l in omega arith
     go false = omega arith
 
-numeral_digits : (bound v : ℕ) (s : List ℕ) → numeral 16 bound s ≡ Value v → all (is_digit_of 16) s ≡ true
+numeral_digits : (bound v : ℕ) (s : List ℕ) → numeral 16 bound s ≡ Some v → all (is_digit_of 16) s ≡ true
 unfolding numeral
 numeral_digits bound v s e = go (is_empty s) (all (is_digit_of 16) s) (ltb (value_from 16 0 s) bound) e
   where
-    go : (n t u : Bool) → cond (not n && t && u) (Value (value_from 16 0 s)) NoNumeral ≡ Value v → t ≡ true
+    go : (n t u : Bool) → cond (not n && t && u) (Some (value_from 16 0 s)) None ≡ Some v → t ≡ true
     go true t u e = let z : ◌≡◌ {A = ℕ} 0 1 = cc in absurd (omega arith)
     go false true u e = refl
     go false false u e = let z : ◌≡◌ {A = ℕ} 0 1 = cc in absurd (omega arith)
 
 -- a line of n bytes has a word below 16 ^ n
-word_below : (l : List ℕ) (w : ℕ) → first_of_line l ≡ Value w → w < 16 ^ length l
+word_below : (l : List ℕ) (w : ℕ) → first_of_line l ≡ Some w → w < 16 ^ length l
 unfolding hexadecimal
 word_below l w e =
     let s : List ℕ = without_plus (unprefixed l) in
@@ -225,7 +219,7 @@ bit_reaches k w h = go (ltb w (2 ^ k)) refl
         absurd (omega arith)
     go false e = ltb-false w (2 ^ k) e
 
-module _ (w : ℕ) (o : OlaOpcode) (e : operation_in w ≡ IsOpcode o) where
+module _ (w : ℕ) (o : OlaOpcode) (e : operation_in w ≡ Some o) where
   operation_reaches : 2 ^ operation_bit o ≤ w
   operation_reaches = bit_reaches (operation_bit o) w (first_holds (λ q. bit (operation_bit q) w) operations o e)
 
@@ -248,20 +242,20 @@ module _ (w : ℕ) (o : OlaOpcode) (e : operation_in w ≡ IsOpcode o) where
 
 -- an instruction read from a first line of n bytes and, where it has one, a second
 data ReadFrom (n : ℕ) : Option (List ℕ) → BinaryInstruction → Type 0 where
-  from_one : {i : BinaryInstruction} → 2 ^ operation_bit i.opcode < 16 ^ n → length (source_row i) ≤ besides i.opcode + 3 → ReadFrom n none i
-  from_two : {l : List ℕ} {i : BinaryInstruction} → 2 ^ 21 < 16 ^ n → length (source_row i) ≤ 40 → ReadFrom n (some l) i
+  from_one : {i : BinaryInstruction} → 2 ^ operation_bit i.opcode < 16 ^ n → length (source_row i) ≤ besides i.opcode + 3 → ReadFrom n None i
+  from_two : {l : List ℕ} {i : BinaryInstruction} → 2 ^ 21 < 16 ^ n → length (source_row i) ≤ 40 → ReadFrom n (Some l) i
 
 module _ (n w : ℕ) (b : w < 16 ^ n) (k : ℕ) (i : BinaryInstruction) where
-  operation_from : (p : OpcodeFound) → operation_in w ≡ p → (second : Option (List ℕ)) → (is_here second ≡ true → length (source_row i) ≤ 40)
+  operation_from : (p : Option OlaOpcode) → operation_in w ≡ p → (second : Option (List ℕ)) → (is_here second ≡ true → length (source_row i) ≤ 40)
       → on_operation k w p second ≡ ok i → ReadFrom n second i
   unfolding on_operation
-  operation_from NoOpcode e second m r = absurd (not_ok r)
-  operation_from (IsOpcode o) e none m r =
+  operation_from None e second m r = absurd (not_ok r)
+  operation_from (Some o) e None m r =
       let h = operation_reaches w o e in
-      subst (ReadFrom n none) (ok_same r) (from_one {i = built_alone o w} (omega arith) (alone_most o w))
-  operation_from (IsOpcode o) e (some l) m r = go (two_due o w) refl r
+      subst (ReadFrom n None) (ok_same r) (from_one {i = built_alone o w} (omega arith) (alone_most o w))
+  operation_from (Some o) e (Some l) m r = go (two_due o w) refl r
     where
-      go : (t : Bool) → two_due o w ≡ t → cond t (on_number k o w (second_of_line l)) (refused 17 k) ≡ ok i → ReadFrom n (some l) i
+      go : (t : Bool) → two_due o w ≡ t → cond t (on_number k o w (second_of_line l)) (refused 17 k) ≡ ok i → ReadFrom n (Some l) i
       go true f r = let h = two_reaches w o e f in from_two (omega arith) (m refl)
       go false f r = absurd (not_ok r)
 
@@ -275,16 +269,16 @@ module _ (k : ℕ) (g : Group (List ℕ)) (i : BinaryInstruction) (e : group_dec
   unfolding on_first
   group_from = go (first_of_line g.first) refl e
     where
-      go : (n : Numeral) → first_of_line g.first ≡ n → on_first k n g.second ≡ ok i → ReadFrom (length g.first) g.second i
-      go NoNumeral f r = absurd (not_ok r)
-      go (Value w) f r = operation_from (length g.first) w (word_below g.first w f) k i (operation_in w) refl g.second second_most r
+      go : (n : Option ℕ) → first_of_line g.first ≡ n → on_first k n g.second ≡ ok i → ReadFrom (length g.first) g.second i
+      go None f r = absurd (not_ok r)
+      go (Some w) f r = operation_from (length g.first) w (word_below g.first w f) k i (operation_in w) refl g.second second_most r
 
 -- ---- its row against those lines
 
 -- what a function says of each line of a group, added up
 abbrev pub held : {A : Type 0} → (A → ℕ) → Option A → ℕ
-held u none = 0
-held u (some a) = u a
+held u None = 0
+held u (Some a) = u a
 
 abbrev pub weighed : {A : Type 0} → (A → ℕ) → Group A → ℕ
 weighed u g = u g.first + held u g.second

@@ -1,9 +1,9 @@
 -- Laws of the passes over a bytecode and of the writers, in the shapes in which the functions ask for them.
+use Rattle.std.specs.Prelude.{Option, Some, None, Result, Ok, Err, ⊤}
 use Prim.Native.Nat.{ℕ, suc, ◌+◌, ◌-◌, ◌*◌, ◌^◌, ◌<◌, ◌≤◌}
 use mathlib.Core.Path.{◌≡◌, refl, sym, ap, ◌∙◌}
 use mathlib.Core.List.{List, [], ◌∷◌}
 use mathlib.Core.Bool.{Bool, true, false, not}
-use mathlib.Core.Option.{none, some}
 use native.Mathlib.Omega.{arith}
 use native.Mathlib.Numerals.{add-one}
 use borrow.Author.Rules.{rules}
@@ -17,8 +17,6 @@ use Rattle.text.specs.Bytes.{bytes}
 use Rattle.text.specs.Answer.{Answer, ok, refused, ◌>>=◌, ◌>>◌, refuse_at, on_ok}
 use Rattle.text.proofs.Laws.{told_not_true, told_not_false}
 use Rattle.text.proofs.AnswerLaws.{not_ok}
-use Rattle.text_write.specs.declared.Put.{Put}
-use Rattle.text_write.specs.declared.Put.TheVariants.{Count, Short}
 use Rattle.text_write.specs.Put.{put_count, put_into}
 use Rattle.text_write.proofs.Laws.{sets_append, put_fits, length_put, count_told, never_short}
 use Rattle.program.specs.Bytecode.{within, text_left}
@@ -28,67 +26,57 @@ use Rattle.program_bytecode.proofs.Laws.{stored_left, kept_left, count_left, sho
 use Rattle.decoder.specs.Open.{open_number, open_detail, opened}
 use Rattle.decoder.specs.Steps.{accepted_of, open_numbered}
 use Rattle.decoder.specs.declared.OpenRefusal.{OpenRefusal}
-use Rattle.decoder.specs.declared.Opening.{Opening}
-use Rattle.decoder.specs.declared.Opening.TheVariants.{Accepted, Refused as OpenRefused}
+use Rattle.decoder.specs.declared.NextRefusal.{NextRefusal}
 use Rattle.decoder_lines.specs.ReadFrom.{read_from, at_numbered}
 use Rattle.decoder_lines.specs.declared.InstructionAt.{InstructionAt}
-use Rattle.decoder_lines.specs.declared.InstructionAt.TheVariants.{NoneLeft, Refused as RefusedAt, Is as IsAt}
 use Rattle.source.specs.SourceText.{source_row, source_text, is_off_row, first_off_row, source_written, source_numbered}
 use Rattle.source.specs.declared.SourceRefusal.TheVariants.{TextTooShort}
-use Rattle.source.specs.declared.SourceWritten.{SourceWritten}
-use Rattle.source.specs.declared.SourceWritten.TheVariants.{Is, Refused}
-use Rattle.source_write.specs.Rest.{instructions_from, rows_text, off_option}
-use Rattle.source_write.specs.declared.OffFound.{OffFound}
-use Rattle.source_write.specs.declared.OffFound.TheVariants.{At, Nothing}
-use Rattle.source_write.proofs.RestLaws.{opened_from, rest_end, rest_none, rest_refused, rest_next, next_short, next_more, next_less, source_rows, source_long}
+use Rattle.source_write.specs.Rest.{instructions_from, rows_text}
+use Rattle.source_write.proofs.RestLaws.{opened_from, rest_over, rest_next, next_short, next_more, next_within, next_less, source_rows, source_long}
+use Rattle.source.specs.declared.SourceRefusal.{SourceRefusal}
 
 -- ---- first_off_row: what stands from an offset and its index on
 module _ (text : List ℕ) (index at : ℕ) (inv : first_off_row 0 (instructions_from text 0) ≡ first_off_row index (instructions_from text at)) where
-  off_nothing : instructions_from text at ≡ [] → none ≡ first_off_row 0 (instructions_from text 0)
+  off_nothing : instructions_from text at ≡ [] → None ≡ first_off_row 0 (instructions_from text 0)
   unfolding first_off_row
   off_nothing h = sym (inv ∙ ap (first_off_row index) h)
 
-  -- all passed: none is off its row
-  pub off_end : length text ≤ at → none ≡ first_off_row 0 (instructions_from text 0)
-  off_end h = off_nothing (rest_end text at h)
+  module _ (r : Result InstructionAt NextRefusal) (e : at_numbered r ≡ read_from 0 text at) where
+    -- all passed: none is off its row
+    pub off_over : (f : NextRefusal) → r ≡ Err f → None ≡ first_off_row 0 (instructions_from text 0)
+    off_over f h = off_nothing (rest_over text at r e f h)
 
-  module _ (r : InstructionAt) (e : at_numbered r ≡ read_from 0 text at) where
-    -- no instruction is left: none is
-    pub off_none : r ≡ NoneLeft → none ≡ first_off_row 0 (instructions_from text 0)
-    off_none h = off_nothing (rest_none text at r e h)
-
-    -- none that is read is
-    pub off_refused : (f : OpenRefusal) → r ≡ RefusedAt f → none ≡ first_off_row 0 (instructions_from text 0)
-    off_refused f h = off_nothing (rest_refused text at r e f h)
-
-    module _ (i : BinaryInstruction) (n next : ℕ) (h : r ≡ IsAt i n next) where
+    module _ (i : InstructionAt) (h : r ≡ Ok i) where
       -- the index counts no more instructions than bytes
-      pub index_next : index ≤ at → index + 1 ≤ next
-      index_next p = let m = next_more text at r e i n next h in omega arith
+      pub index_next : index ≤ at → index + 1 ≤ i.next
+      index_next p = let m = next_more text at r e i h in omega arith
 
-      module _ (t : Bool) (p : t ≡ is_off_row i) where
+      pub index_fits : index ≤ at → length text < 2 ^ 64 → Fits w64 (index + 1)
+      index_fits p q = let m = index_next p in let n = next_within text at r e i h in omega arith
+
+      module _ (t : Bool) (p : t ≡ is_off_row i.instruction) where
         -- the one here is off its row
-        pub off_here : t ≡ true → some index ≡ first_off_row 0 (instructions_from text 0)
+        pub off_here : t ≡ true → Some index ≡ first_off_row 0 (instructions_from text 0)
         unfolding first_off_row
-        off_here q = sym (inv ∙ ap (first_off_row index) (rest_next text at r e i n next h) ∙ rw (sym p ∙ q))
+        off_here q = sym (inv ∙ ap (first_off_row index) (rest_next text at r e i h) ∙ rw (sym p ∙ q))
 
         -- it is not: those behind it decide
-        pub off_later : t ≡ false → first_off_row 0 (instructions_from text 0) ≡ first_off_row (index + 1) (instructions_from text next)
+        pub off_later : t ≡ false → first_off_row 0 (instructions_from text 0) ≡ first_off_row (index + 1) (instructions_from text i.next)
         unfolding first_off_row
         off_later q =
             inv
-            ∙ ap (first_off_row index) (rest_next text at r e i n next h)
-            ∙ rw (sym p ∙ q) (ap (λ (k : ℕ). first_off_row k (instructions_from text next)) (sym (add-one index)))
+            ∙ ap (first_off_row index) (rest_next text at r e i h)
+            ∙ rw (sym p ∙ q) (ap (λ (k : ℕ). first_off_row k (instructions_from text i.next)) (sym (add-one index)))
 
-pub ruleset off_laws = (off_end, off_none, off_refused, index_next, off_here, off_later, next_less, rules)
+pub ruleset off_laws = (off_over, index_next, index_fits, off_here, off_later, next_less, rules)
 
 -- ---- row_length and write_row: w is a row
-module _ (w d : List ℕ) (h : length w ≤ 40) (l : length d ≡ 40) (r : Put) (e : r ≡ put_count d 0 w) where
+module _ (w d : List ℕ) (h : length w ≤ 40) (l : length d ≡ 40) (r : Option ℕ) (e : r ≡ put_count d 0 w) where
   -- it fits 40 bytes
-  pub row_never_short : r ≡ Short → ⊥
+  pub row_never_short : r ≡ None → ⊥
   row_never_short f = never_short d 0 w r e (omega arith) f
 
-  module _ (n : ℕ) (f : r ≡ Count n) where
+  module _ (n : ℕ) (f : r ≡ Some n) where
     -- one more than its count fits
     pub row_fits : Fits w64 (n + 1)
     row_fits = let c = count_told d 0 w r e n f in omega arith
@@ -114,12 +102,12 @@ module _ (d : List ℕ) (at : ℕ) (w : List ℕ) (h : at + length (10 ∷ w) �
   pub row_stored : (b : List ℕ) → b ≡ put_into (set d at 10) (at + 1) w → b ≡ sets d at (10 ∷ w)
   row_stored b e = e ∙ put_fits (set d at 10) (at + 1) w behind_within ∙ ap (λ (k : ℕ). sets (set d at 10) k w) (add-one at)
 
-  module _ (r : Put) (e : r ≡ put_count (set d at 10) (at + 1) w) where
+  module _ (r : Option ℕ) (e : r ≡ put_count (set d at 10) (at + 1) w) where
     -- the row is not refused
-    pub row_never : r ≡ Short → ⊥
+    pub row_never : r ≡ None → ⊥
     row_never f = never_short (set d at 10) (at + 1) w r e behind_within f
 
-    module _ (n : ℕ) (f : r ≡ Count n) where
+    module _ (n : ℕ) (f : r ≡ Some n) where
       -- it ends behind the line feed and its bytes
       pub row_end : (at + 1) + n ≡ at + length (10 ∷ w)
       row_end = let c = count_told (set d at 10) (at + 1) w r e n f in omega arith
@@ -138,62 +126,46 @@ module _ (text : List ℕ) (at end : ℕ) (inv : 5 + length (rows_text (instruct
   unfolding rows_text
   all_passed h = let z = ap (λ (is : List BinaryInstruction). length (rows_text is)) h in omega arith
 
-  -- all passed: the rows end here
-  pub rows_end : length text ≤ at → end ≡ 5 + length (rows_text (instructions_from text 0))
-  rows_end h = all_passed (rest_end text at h)
-
   all_inside : (room : ℕ) → end ≤ room → end ≡ 5 + length (rows_text (instructions_from text 0)) → true ≡ leb (5 + length (rows_text (instructions_from text 0))) room
   all_inside room k h = sym (le-leb (5 + length (rows_text (instructions_from text 0))) room (omega arith))
 
-  -- and fit
-  pub fit_end : (room : ℕ) → end ≤ room → length text ≤ at → true ≡ leb (5 + length (rows_text (instructions_from text 0))) room
-  fit_end room k h = all_inside room k (rows_end h)
+  module _ (r : Result InstructionAt NextRefusal) (e : at_numbered r ≡ read_from 0 text at) where
+    -- all passed: the rows end here
+    pub rows_over : (f : NextRefusal) → r ≡ Err f → end ≡ 5 + length (rows_text (instructions_from text 0))
+    rows_over f h = all_passed (rest_over text at r e f h)
 
-  module _ (r : InstructionAt) (e : at_numbered r ≡ read_from 0 text at) where
-    -- no instruction is left
-    pub rows_none : r ≡ NoneLeft → end ≡ 5 + length (rows_text (instructions_from text 0))
-    rows_none h = all_passed (rest_none text at r e h)
+    -- and fit
+    pub fit_over : (room : ℕ) (f : NextRefusal) → end ≤ room → r ≡ Err f → true ≡ leb (5 + length (rows_text (instructions_from text 0))) room
+    fit_over room f k h = all_inside room k (rows_over f h)
 
-    -- and the rows fit
-    pub fit_none : (room : ℕ) → end ≤ room → r ≡ NoneLeft → true ≡ leb (5 + length (rows_text (instructions_from text 0))) room
-    fit_none room k h = all_inside room k (rows_none h)
-
-    -- none that is read
-    pub rows_refused : (f : OpenRefusal) → r ≡ RefusedAt f → end ≡ 5 + length (rows_text (instructions_from text 0))
-    rows_refused f h = all_passed (rest_refused text at r e f h)
-
-    -- and the rows fit
-    pub fit_refused : (room : ℕ) (f : OpenRefusal) → end ≤ room → r ≡ RefusedAt f → true ≡ leb (5 + length (rows_text (instructions_from text 0))) room
-    fit_refused room f k h = all_inside room k (rows_refused f h)
-
-    module _ (i : BinaryInstruction) (n next : ℕ) (h : r ≡ IsAt i n next) where
-      next_long : length (rows_text (instructions_from text at)) ≡ length (10 ∷ source_row i) + length (rows_text (instructions_from text next))
+    module _ (i : InstructionAt) (h : r ≡ Ok i) where
+      next_long : length (rows_text (instructions_from text at)) ≡ length (10 ∷ source_row i.instruction) + length (rows_text (instructions_from text i.next))
       unfolding rows_text
       next_long =
-          ap (λ (is : List BinaryInstruction). length (rows_text is)) (rest_next text at r e i n next h)
-          ∙ length-append (10 ∷ source_row i) (rows_text (instructions_from text next))
+          ap (λ (is : List BinaryInstruction). length (rows_text is)) (rest_next text at r e i h)
+          ∙ length-append (10 ∷ source_row i.instruction) (rows_text (instructions_from text i.next))
 
       -- what is left behind the row here, which ends at m
-      pub rows_more : (m : ℕ) → m ≡ end + length (10 ∷ source_row i) → 5 + length (rows_text (instructions_from text 0)) ≡ m + length (rows_text (instructions_from text next))
+      pub rows_more : (m : ℕ) → m ≡ end + length (10 ∷ source_row i.instruction) → 5 + length (rows_text (instructions_from text 0)) ≡ m + length (rows_text (instructions_from text i.next))
       rows_more m f = let z = next_long in omega arith
 
       -- the same where m is its length
-      pub rows_added : (m : ℕ) → m ≡ length (10 ∷ source_row i) → 5 + length (rows_text (instructions_from text 0)) ≡ (end + m) + length (rows_text (instructions_from text next))
+      pub rows_added : (m : ℕ) → m ≡ length (10 ∷ source_row i.instruction) → 5 + length (rows_text (instructions_from text 0)) ≡ (end + m) + length (rows_text (instructions_from text i.next))
       rows_added m f = rows_more (end + m) (ap (λ (k : ℕ). end + k) f)
 
       -- a row that does not fit: neither do all
-      pub row_over : (room m : ℕ) → end ≤ room → m ≡ length (10 ∷ source_row i) → room - end < m → false ≡ leb (5 + length (rows_text (instructions_from text 0))) room
+      pub row_over : (room m : ℕ) → end ≤ room → m ≡ length (10 ∷ source_row i.instruction) → room - end < m → false ≡ leb (5 + length (rows_text (instructions_from text 0))) room
       row_over room m k f l = let z = next_long in sym (lt-leb (5 + length (rows_text (instructions_from text 0))) room (omega arith))
 
       -- the row here lies within a text that has room for all
-      pub row_within : (d t : List ℕ) → 5 + length (rows_text (instructions_from text 0)) ≤ length d → length t ≡ length d → end + length (10 ∷ source_row i) ≤ length t
+      pub row_within : (d t : List ℕ) → 5 + length (rows_text (instructions_from text 0)) ≤ length d → length t ≡ length d → end + length (10 ∷ source_row i.instruction) ≤ length t
       row_within d t l m = let z = next_long in omega arith
 
 -- no room for the first k bytes of `main:`
 pub main_over : (room k : ℕ) (w : List ℕ) → room < k → leb k 5 ≡ true → false ≡ leb (5 + length w) room
 main_over room k w h l = let m = leb-true k 5 l in sym (lt-leb (5 + length w) room (omega arith))
 
-pub ruleset fit_laws = (main_over, fit_end, fit_none, fit_refused, rows_added, next_short, row_over, next_less, rules)
+pub ruleset fit_laws = (main_over, fit_over, rows_added, next_short, row_over, next_less, rules)
 
 -- ---- write_rows: t is the text d when the rows before the offset are written
 module _ (text d t : List ℕ) (at end : ℕ) (inv : sets d 5 (rows_text (instructions_from text 0)) ≡ sets t end (rows_text (instructions_from text at))) where
@@ -201,30 +173,22 @@ module _ (text d t : List ℕ) (at end : ℕ) (inv : sets d 5 (rows_text (instru
   unfolding rows_text
   all_written h = sym (inv ∙ ap (λ (is : List BinaryInstruction). sets t end (rows_text is)) h)
 
-  -- all passed: they are written
-  pub written_end : length text ≤ at → t ≡ sets d 5 (rows_text (instructions_from text 0))
-  written_end h = all_written (rest_end text at h)
-
-  module _ (r : InstructionAt) (e : at_numbered r ≡ read_from 0 text at) where
-    -- no instruction is left
-    pub written_none : r ≡ NoneLeft → t ≡ sets d 5 (rows_text (instructions_from text 0))
-    written_none h = all_written (rest_none text at r e h)
-
-    -- none that is read
-    pub written_refused : (f : OpenRefusal) → r ≡ RefusedAt f → t ≡ sets d 5 (rows_text (instructions_from text 0))
-    written_refused f h = all_written (rest_refused text at r e f h)
+  module _ (r : Result InstructionAt NextRefusal) (e : at_numbered r ≡ read_from 0 text at) where
+    -- all passed: they are written
+    pub written_over : (f : NextRefusal) → r ≡ Err f → t ≡ sets d 5 (rows_text (instructions_from text 0))
+    written_over f h = all_written (rest_over text at r e f h)
 
     -- the row here is written too
-    pub written_more : (i : BinaryInstruction) (n next : ℕ) → r ≡ IsAt i n next → (u : List ℕ) (m : ℕ) → u ≡ sets t end (10 ∷ source_row i) → m ≡ end + length (10 ∷ source_row i)
-        → sets d 5 (rows_text (instructions_from text 0)) ≡ sets u m (rows_text (instructions_from text next))
+    pub written_more : (i : InstructionAt) → r ≡ Ok i → (u : List ℕ) (m : ℕ) → u ≡ sets t end (10 ∷ source_row i.instruction) → m ≡ end + length (10 ∷ source_row i.instruction)
+        → sets d 5 (rows_text (instructions_from text 0)) ≡ sets u m (rows_text (instructions_from text i.next))
     unfolding rows_text
-    written_more i n next h u m f g =
+    written_more i h u m f g =
         inv
-        ∙ ap (λ (is : List BinaryInstruction). sets t end (rows_text is)) (rest_next text at r e i n next h)
-        ∙ sets_append (10 ∷ source_row i) (rows_text (instructions_from text next)) t end
+        ∙ ap (λ (is : List BinaryInstruction). sets t end (rows_text is)) (rest_next text at r e i h)
+        ∙ sets_append (10 ∷ source_row i.instruction) (rows_text (instructions_from text i.next)) t end
         ∙ sym (rw (f, g))
 
-pub ruleset rows_laws = (rows_more, rows_end, rows_none, rows_refused, row_within, written_end, written_none, written_refused, written_more, next_less, rules)
+pub ruleset rows_laws = (rows_more, rows_over, row_within, written_over, written_more, next_less, rules)
 
 -- ---- write_fitting: t is whether the source fits
 module _ (d : List ℕ) (is : List BinaryInstruction) (t : Bool) (e : t ≡ leb (5 + length (rows_text is)) (length d)) where
@@ -235,7 +199,7 @@ module _ (d : List ℕ) (is : List BinaryInstruction) (t : Bool) (e : t ≡ leb 
   source_inside h = let z = source_long is in let y = leb-true (5 + length (rows_text is)) (length d) (told_not_false t _ e h) in omega arith
 
   -- 23
-  pub short_answer : not t ≡ true → source_numbered (Refused TextTooShort) ≡ count_of (within (length d) (source_text is))
+  pub short_answer : not t ≡ true → source_numbered (Err TextTooShort) ≡ count_of (within (length d) (source_text is))
   short_answer h = short_left d (source_text is) (source_over h)
 
   -- the text is left as it was
@@ -243,7 +207,7 @@ module _ (d : List ℕ) (is : List BinaryInstruction) (t : Bool) (e : t ≡ leb 
   short_kept h = kept_left d (source_text is) (source_over h)
 
   -- the count
-  pub done_answer : (n : ℕ) → not t ≡ false → n ≡ 5 + length (rows_text is) → source_numbered (Is n) ≡ count_of (within (length d) (source_text is))
+  pub done_answer : (n : ℕ) → not t ≡ false → n ≡ 5 + length (rows_text is) → source_numbered (Ok n) ≡ count_of (within (length d) (source_text is))
   done_answer n h f = ap ok (f ∙ sym (source_long is)) ∙ count_left d (source_text is) (source_inside h)
 
   -- u is the text when `main:` is written
@@ -266,7 +230,7 @@ module _ (d : List ℕ) (is : List BinaryInstruction) (t : Bool) (e : t ≡ leb 
 pub ruleset fitting_laws = (short_answer, short_kept, done_answer, rows_inside, done_text, rules)
 
 -- ---- write_source
-module _ (text d : List ℕ) (o : Opening) (e : open_numbered o ≡ accepted_of (opened text)) where
+module _ (text d : List ℕ) (o : Result ⊤ OpenRefusal) (e : open_numbered o ≡ accepted_of (opened text)) where
   not_opened : (n k : ℕ) → refused n k ≡ accepted_of (opened text) → opened text ≡ refused n k
   not_opened n k = go (opened text)
     where
@@ -275,16 +239,16 @@ module _ (text d : List ℕ) (o : Opening) (e : open_numbered o ≡ accepted_of 
       go (refused m j) p = let x : n ≡ m = cc in let y : k ≡ j = cc in rw (x, y) refl
 
   -- 14 to 19
-  pub open_answer : (f : OpenRefusal) → o ≡ OpenRefused f → refused (open_number f) (open_detail f) ≡ count_of (source_written text (length d))
+  pub open_answer : (f : OpenRefusal) → o ≡ Err f → refused (open_number f) (open_detail f) ≡ count_of (source_written text (length d))
   unfolding source_written ◌>>=◌
   open_answer f h = sym (rw (not_opened _ _ (sym (ap open_numbered h) ∙ e)) refl)
 
   -- leave the text as it was
-  pub open_kept : (f : OpenRefusal) → o ≡ OpenRefused f → d ≡ text_left (source_written text (length d)) d
+  pub open_kept : (f : OpenRefusal) → o ≡ Err f → d ≡ text_left (source_written text (length d)) d
   unfolding source_written ◌>>=◌ on_ok
   open_kept f h = sym (rw (not_opened _ _ (sym (ap open_numbered h) ∙ e)) refl)
 
-  module _ (h : o ≡ Accepted) where
+  module _ (h : o ≡ Ok tt) where
     opens : opened text ≡ ok (instructions_from text 0)
     opens = go (opened text) refl (sym (ap open_numbered h) ∙ e)
       where
@@ -292,31 +256,31 @@ module _ (text d : List ℕ) (o : Opening) (e : open_numbered o ≡ accepted_of 
         go (ok is) p q = p ∙ ap ok (sym (opened_from text is p))
         go (refused n k) p q = absurd (not_ok (sym q))
 
-    module _ (a : OffFound) (f : off_option a ≡ first_off_row 0 (instructions_from text 0)) where
-      off_written : (k : ℕ) → a ≡ At k → source_written text (length d) ≡ refused 26 k
+    module _ (a : Option ℕ) (f : a ≡ first_off_row 0 (instructions_from text 0)) where
+      off_written : (k : ℕ) → a ≡ Some k → source_written text (length d) ≡ refused 26 k
       unfolding source_written ◌>>=◌ ◌>>◌ refuse_at
-      off_written k g = rw (opens, sym f ∙ ap off_option g) refl
+      off_written k g = rw (opens, sym f ∙ g) refl
 
       -- 26
-      pub off_answer : (k : ℕ) → a ≡ At k → refused 26 k ≡ count_of (source_written text (length d))
+      pub off_answer : (k : ℕ) → a ≡ Some k → refused 26 k ≡ count_of (source_written text (length d))
       unfolding ◌>>=◌
       off_answer k g = sym (ap count_of (off_written k g))
 
       -- leaves the text as it was
-      pub off_kept : (k : ℕ) → a ≡ At k → d ≡ text_left (source_written text (length d)) d
+      pub off_kept : (k : ℕ) → a ≡ Some k → d ≡ text_left (source_written text (length d)) d
       unfolding on_ok
       off_kept k g = sym (ap (λ (x : Answer (List ℕ)). text_left x d) (off_written k g))
 
-      on_written : a ≡ Nothing → source_written text (length d) ≡ within (length d) (source_text (instructions_from text 0))
+      on_written : a ≡ None → source_written text (length d) ≡ within (length d) (source_text (instructions_from text 0))
       unfolding source_written ◌>>=◌ ◌>>◌ refuse_at
-      on_written g = rw (opens, sym f ∙ ap off_option g) refl
+      on_written g = rw (opens, sym f ∙ g) refl
 
       -- otherwise what the source's writer answers
-      pub on_answer : (w : SourceWritten) → a ≡ Nothing → source_numbered w ≡ count_of (within (length d) (source_text (instructions_from text 0))) → source_numbered w ≡ count_of (source_written text (length d))
+      pub on_answer : (w : Result ℕ SourceRefusal) → a ≡ None → source_numbered w ≡ count_of (within (length d) (source_text (instructions_from text 0))) → source_numbered w ≡ count_of (source_written text (length d))
       on_answer w g p = p ∙ sym (ap count_of (on_written g))
 
       -- and what it leaves
-      pub on_text : (b : List ℕ) → a ≡ Nothing → b ≡ text_left (within (length d) (source_text (instructions_from text 0))) d → b ≡ text_left (source_written text (length d)) d
+      pub on_text : (b : List ℕ) → a ≡ None → b ≡ text_left (within (length d) (source_text (instructions_from text 0))) d → b ≡ text_left (source_written text (length d)) d
       on_text b g p = p ∙ sym (ap (λ (x : Answer (List ℕ)). text_left x d) (on_written g))
 
 pub ruleset source_laws = (open_answer, open_kept, off_answer, off_kept, on_answer, on_text, rules)

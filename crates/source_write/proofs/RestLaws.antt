@@ -1,9 +1,9 @@
 -- What a bytecode has from an offset on, by the instruction that stands there; and that a text that opens has, from its first byte on, what it opens to.
+use Rattle.std.specs.Prelude.{Some, None, Result, Ok, Err}
 use Prim.Native.Nat.{ℕ, suc, ◌-◌, ◌+◌, ◌<◌, ◌≤◌}
 use mathlib.Core.Path.{◌≡◌, refl, sym, ap, subst, ◌∙◌}
 use mathlib.Core.List.{List, [], ◌∷◌, ◌++◌, map, append-nil}
 use mathlib.Core.Bool.{Bool, true, false}
-use mathlib.Core.Option.{none, some}
 use native.Mathlib.Omega.{arith}
 use lib.ListN.{length, take, drop, length-append}
 use Rattle.text.specs.Bytes.{bytes}
@@ -17,7 +17,7 @@ use Rattle.decoder.specs.Lines.{line_has_second, line_groups, is_complete, compl
 use Rattle.decoder.specs.Decode.{decoded, on_first, group_decoded}
 use Rattle.decoder.specs.Open.{all_decoded, opened}
 use Rattle.decoder.specs.Steps.{ReadAt}
-use Rattle.decoder.specs.declared.OpenRefusal.{OpenRefusal}
+use Rattle.decoder.specs.declared.NextRefusal.{NextRefusal}
 use Rattle.decoder.proofs.GroupLaws.{grouped_one, grouped_two}
 use Rattle.decoder.proofs.DecodeLaws.{group_outcome, outcome_read}
 use Rattle.decoder_lines.specs.GroupAt.{group_at}
@@ -25,9 +25,7 @@ use Rattle.decoder_lines.specs.ReadFrom.{read_as, read_from, at_numbered}
 use Rattle.decoder_lines.specs.declared.GroupAt.{GroupAt}
 use Rattle.decoder_lines.specs.declared.GroupAt.TheVariants.{Nothing, Unreadable, Incomplete, Single, Pair}
 use Rattle.decoder_lines.specs.declared.InstructionAt.{InstructionAt}
-use Rattle.decoder_lines.specs.declared.InstructionAt.TheVariants.{NoneLeft, Refused, Is}
-use Rattle.decoder_lines.proofs.AtLaws.{at_past}
-use Rattle.decoder_lines.proofs.GroupLaws.{line_at, groups_from, nothing_groups, unreadable_first, unreadable_groups, incomplete_first, incomplete_groups, single_first, single_alone, single_groups, single_more, pair_first, pair_two, pair_groups, pair_more}
+use Rattle.decoder_lines.proofs.GroupLaws.{line_at, groups_from, nothing_groups, unreadable_first, unreadable_groups, incomplete_first, incomplete_groups, single_first, single_alone, single_groups, single_more, single_within, pair_first, pair_two, pair_groups, pair_more, pair_within}
 use Rattle.decoder_lines.proofs.ReadLaws.{reads_nothing, reads_unreadable, reads_incomplete, reads_single, reads_pair}
 use Rattle.source.specs.SourceText.{source_row, source_text}
 use Rattle.source_laws.proofs.RowLengths.{read_most}
@@ -88,16 +86,16 @@ as_decoded [] = decoded_none
 as_decoded (l ∷ []) = go (line_has_second l) refl
   where
     go : (t : Bool) → line_has_second l ≡ t → AsDecoded (line_groups (l ∷ []))
-    go false f = subst AsDecoded (sym (grouped_one line_has_second l [] f)) (decoded_next (record { first = l; second = none }) [] (rw f) decoded_none)
-    go true f = subst AsDecoded (sym alone) (decoded_last (record { first = l; second = none }) (rw f))
+    go false f = subst AsDecoded (sym (grouped_one line_has_second l [] f)) (decoded_next (record { first = l; second = None }) [] (rw f) decoded_none)
+    go true f = subst AsDecoded (sym alone) (decoded_last (record { first = l; second = None }) (rw f))
       where
-        alone : line_groups (l ∷ []) ≡ record { first = l; second = none } ∷ []
+        alone : line_groups (l ∷ []) ≡ record { first = l; second = None } ∷ []
         alone = rw f
 as_decoded (l ∷ m ∷ ms) = go (line_has_second l) refl (as_decoded (m ∷ ms)) (as_decoded ms)
   where
     go : (t : Bool) → line_has_second l ≡ t → AsDecoded (line_groups (m ∷ ms)) → AsDecoded (line_groups ms) → AsDecoded (line_groups (l ∷ m ∷ ms))
-    go false f one two = subst AsDecoded (sym (grouped_one line_has_second l (m ∷ ms) f)) (decoded_next (record { first = l; second = none }) (line_groups (m ∷ ms)) (rw f) one)
-    go true f one two = subst AsDecoded (sym (grouped_two line_has_second l m ms f)) (decoded_next (record { first = l; second = some m }) (line_groups ms) (rw f) two)
+    go false f one two = subst AsDecoded (sym (grouped_one line_has_second l (m ∷ ms) f)) (decoded_next (record { first = l; second = None }) (line_groups (m ∷ ms)) (rw f) one)
+    go true f one two = subst AsDecoded (sym (grouped_two line_has_second l m ms f)) (decoded_next (record { first = l; second = Some m }) (line_groups ms) (rw f) two)
 
 -- the instructions from the first byte on of a text that opens are those that it opens to
 pub opened_from : (text : List ℕ) (is : List BinaryInstruction) → opened text ≡ ok is → instructions_from text 0 ≡ is
@@ -115,13 +113,14 @@ module _ (text : List ℕ) (at : ℕ) where
   -- what an answer says of what is left: an instruction and what is left behind it, or nothing
   abbrev Says : Answer ReadAt → Type 0
   Says (ok r) =
-      (instructions_from text at ≡ r.instruction ∷ instructions_from text r.offset) × (length (source_row r.instruction) ≤ 40) × (at < r.offset)
+      (instructions_from text at ≡ r.instruction ∷ instructions_from text r.offset) × (length (source_row r.instruction) ≤ 40)
+      × (at < r.offset) × (r.offset ≤ length text)
   Says (refused n d) = instructions_from text at ≡ []
 
-  complete_says : (g : Group (List ℕ)) (n next : ℕ) → groups_from text at ≡ g ∷ groups_from text next → is_complete g ≡ true → at < next
+  complete_says : (g : Group (List ℕ)) (n next : ℕ) → groups_from text at ≡ g ∷ groups_from text next → is_complete g ≡ true → (at < next) × (next ≤ length text)
       → (a : Answer BinaryInstruction) → group_decoded 0 g ≡ a → Says (read_as a n next)
   unfolding read_as ◌>>=◌
-  complete_says g n next e c l (ok i) p = (from_as _ e ∙ first_read g (groups_from text next) c i p, read_most _ i (outcome_read _ (group_outcome g c) 0 i p), l)
+  complete_says g n next e c l (ok i) p = (from_as _ e ∙ first_read g (groups_from text next) c i p, read_most _ i (outcome_read _ (group_outcome g c) 0 i p), l.0, l.1)
   complete_says g n next e c l (refused m d) p = from_as _ e ∙ first_refused g (groups_from text next) c m d p
 
   -- so does the instruction from there on
@@ -134,60 +133,55 @@ module _ (text : List ℕ) (at : ℕ) where
       go Unreadable e =
           let f = unreadable_first text at e in
           subst Says (reads_unreadable 0 text at (group_at text at) refl e)
-          (from_as _ (unreadable_groups text at e) ∙ first_refused (record { first = line_at text at; second = none }) (groups_from text (at + line_next (drop at text))) (rw f) 15 0 (rw f))
+          (from_as _ (unreadable_groups text at e) ∙ first_refused (record { first = line_at text at; second = None }) (groups_from text (at + line_next (drop at text))) (rw f) 15 0 (rw f))
       go Incomplete e =
           let f = incomplete_first text at e in
           subst Says (reads_incomplete 0 text at (group_at text at) refl e)
-          (from_as _ (incomplete_groups text at e) ∙ incomplete_none (record { first = line_at text at; second = none }) [] (rw (f.1, f.2)))
+          (from_as _ (incomplete_groups text at e) ∙ incomplete_none (record { first = line_at text at; second = None }) [] (rw (f.1, f.2)))
       go (Single w next) e =
           let f = single_first text at w next e in
           let h = single_alone text at w next e in
-          subst Says (reads_single 0 text at (group_at text at) refl w next e (decoded 0 w none) refl (read_as (decoded 0 w none) 1 next) refl)
-          (complete_says (record { first = line_at text at; second = none }) 1 next (single_groups text at w next e) (rw (f, h))
-          (single_more text at w next e) (decoded 0 w none) (rw f))
+          subst Says (reads_single 0 text at (group_at text at) refl w next e (decoded 0 w None) refl (read_as (decoded 0 w None) 1 next) refl)
+          (complete_says (record { first = line_at text at; second = None }) 1 next (single_groups text at w next e) (rw (f, h))
+          (single_more text at w next e, single_within text at w next e) (decoded 0 w None) (rw f))
       go (Pair w start n next) e =
           let f = pair_first text at w start n next e in
           let h = pair_two text at w start n next e in
           let m = pair_more text at w start n next e in
           let l : List ℕ = take n (drop start text) in
           let j : start + n - start ≡ n = omega arith in
-          subst Says (reads_pair 0 text at (group_at text at) refl w start n next e (decoded 0 w (some l)) (rw j) (read_as (decoded 0 w (some l)) 2 next) refl)
-          (complete_says (record { first = line_at text at; second = some l }) 2 next (pair_groups text at w start n next e) (rw (f, h))
-          (omega arith) (decoded 0 w (some l)) (rw f))
+          subst Says (reads_pair 0 text at (group_at text at) refl w start n next e (decoded 0 w (Some l)) (rw j) (read_as (decoded 0 w (Some l)) 2 next) refl)
+          (complete_says (record { first = line_at text at; second = Some l }) 2 next (pair_groups text at w start n next e) (rw (f, h))
+          (omega arith, pair_within text at w start n next e) (decoded 0 w (Some l)) (rw f))
 
-  -- past the end nothing is left
-  pub rest_end : length text ≤ at → instructions_from text at ≡ []
-  unfolding read_in_order
-  rest_end h = from_as [] (nothing_groups text at (sym (at_past text at h)))
-
-  module _ (r : InstructionAt) (e : at_numbered r ≡ read_from 0 text at) where
+  module _ (r : Result InstructionAt NextRefusal) (e : at_numbered r ≡ read_from 0 text at) where
     told : Says (at_numbered r)
     told = subst Says (sym e) says
 
-    -- where no instruction stands nothing is left
-    pub rest_none : r ≡ NoneLeft → instructions_from text at ≡ []
-    rest_none h = subst Says (ap at_numbered h) told
+    -- where no instruction is read nothing is left
+    pub rest_over : (f : NextRefusal) → r ≡ Err f → instructions_from text at ≡ []
+    rest_over f h = subst Says (ap at_numbered h) told
 
-    -- nor from one on that is refused
-    pub rest_refused : (f : OpenRefusal) → r ≡ Refused f → instructions_from text at ≡ []
-    rest_refused f h = subst Says (ap at_numbered h) told
-
-    module _ (i : BinaryInstruction) (n next : ℕ) (h : r ≡ Is i n next) where
+    module _ (i : InstructionAt) (h : r ≡ Ok i) where
       -- an instruction, and what is left behind it
-      pub rest_next : instructions_from text at ≡ i ∷ instructions_from text next
+      pub rest_next : instructions_from text at ≡ i.instruction ∷ instructions_from text i.next
       rest_next = (subst Says (ap at_numbered h) told).0
 
       -- its row is short
-      pub next_short : length (source_row i) ≤ 40
+      pub next_short : length (source_row i.instruction) ≤ 40
       next_short = (subst Says (ap at_numbered h) told).1
 
       -- what is left behind it begins further on
-      pub next_more : at < next
+      pub next_more : at < i.next
       next_more = (subst Says (ap at_numbered h) told).2
 
+      -- and within the bytecode
+      pub next_within : i.next ≤ length text
+      next_within = (subst Says (ap at_numbered h) told).3
+
       -- so less is left
-      pub next_less : at < length text → length text - next < length text - at
-      next_less p = let m = next_more in omega arith
+      pub next_less : length text - i.next < length text - at
+      next_less = let m = next_more in let n = next_within in omega arith
 
 -- ---- the rows
 

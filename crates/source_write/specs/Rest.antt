@@ -1,6 +1,5 @@
 -- What a bytecode has from an offset on: its instructions, and their rows as they are still to be written.
-use Rattle.std.specs.Prelude.{ℕ, List, [], ◌∷◌, ◌++◌, cond, drop}
-use Rattle.std.proofs.Math.Option.{Option, none, some}
+use Rattle.std.specs.Prelude.{ℕ, List, [], ◌∷◌, ◌++◌, cond, drop, Option, Some, None}
 use Rattle.text.specs.Lines.{lines}
 use Rattle.text.specs.Answer.{on_ok}
 use Rattle.program.specs.Groups.{Group}
@@ -8,8 +7,6 @@ use Rattle.program.specs.declared.BinaryInstruction.{BinaryInstruction}
 use Rattle.decoder.specs.Lines.{line_groups, is_complete}
 use Rattle.decoder.specs.Decode.{group_decoded}
 use Rattle.source.specs.SourceText.{source_row}
-use Rattle.source_write.specs.declared.OffFound.{OffFound}
-use Rattle.source_write.specs.declared.OffFound.TheVariants.{At, Nothing}
 
 -- the instructions of groups, up to the first that is not read
 unfoldable pub read_in_order : List (Group (List ℕ)) → List BinaryInstruction
@@ -24,7 +21,3 @@ instructions_from text at = read_in_order (line_groups (lines (drop at text)))
 unfoldable pub rows_text : List BinaryInstruction → List ℕ
 rows_text [] = []
 rows_text (i ∷ is) = (10 ∷ source_row i) ++ rows_text is
-
-abbrev pub off_option : OffFound → Option ℕ
-off_option (At index) = some index
-off_option Nothing = none

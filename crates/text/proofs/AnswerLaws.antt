@@ -1,9 +1,9 @@
 -- What an accepted answer says of the steps that it was made by.
+use Rattle.std.specs.Prelude.{Option, Some, None}
 use Prim.Native.Nat.{ℕ, ◌≤◌}
 use mathlib.Core.Path.{◌≡◌, refl, ap, ◌∙◌}
 use mathlib.Core.List.{List, ◌++◌}
 use mathlib.Core.Bool.{Bool, true, false}
-use mathlib.Core.Option.{Option, none, some}
 use native.Mathlib.Omega.{arith}
 use native.Mathlib.Nat.{zero-add}
 use lib.ListN.{length, drop}
@@ -37,10 +37,10 @@ if_passed true n m b e = absurd (not_ok e)
 if_passed false n m b e = (refl, e)
 
 -- where nothing was refused, nothing was found
-pub at_passed : {B : Type 0} (o : Option ℕ) (n : ℕ) (m : Answer B) (b : B) → refuse_at o n >> m ≡ ok b → (o ≡ none) × (m ≡ ok b)
+pub at_passed : {B : Type 0} (o : Option ℕ) (n : ℕ) (m : Answer B) (b : B) → refuse_at o n >> m ≡ ok b → (o ≡ None) × (m ≡ ok b)
 unfolding ◌>>◌ refuse_at
-at_passed none n m b e = (refl, e)
-at_passed (some d) n m b e = absurd (not_ok e)
+at_passed None n m b e = (refl, e)
+at_passed (Some d) n m b e = absurd (not_ok e)
 
 -- entries stored from the start on lie over what stood there
 pub sets_over : {A : Type 0} (new old : List A) → length new ≤ length old → sets old 0 new ≡ over new old

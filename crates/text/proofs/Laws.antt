@@ -5,11 +5,13 @@ use mathlib.Core.List.{List, [], ◌∷◌}
 use mathlib.Core.Bool.{Bool, true, false, cond, not, ◌&&◌, ◌||◌, and-eq-true_iff, true≢false}
 use native.Mathlib.Omega.{arith}
 use native.Mathlib.Numerals.{add-one, unary_clauses}
-use native.Mathlib.Nat.{zero-add, zero-sub, le_refl}
-use borrow.Author.Rules.{rules}
+use native.Mathlib.Nat.{zero-sub, le_refl}
 use borrow.Author.Tests.{le-leb, lt-leb, lt-ltb, le-ltb, eq-eqb, ne_eqb, not-true, not-false}
 use lib.Dec.{eqb}
-use lib.ListN.{length, get_or, take, drop, drop_of_length-le, length-drop}
+use Rattle.std.specs.List.{prefix_len, take_while}
+use Rattle.std.proofs.lemmas.List.Folds.{length-prefix_len}
+use Rattle.std.proofs.lemmas.List.Sums.{prefix_len-le-length, prefix_len_stops}
+use lib.ListN.{length, get_or, take, drop, length-drop}
 use lib.Seq.{slice, drop-cons, take_all, take-nil, length-take-le}
 use Rattle.text.specs.Scan.{scan, all}
 
@@ -37,48 +39,23 @@ part_counts xs n h = sym (length-take-le n xs h)
 
 -- what a call that returns a flag told, behind a test of the flag
 module _ (r t : Bool) (e : r ≡ t) where
-  pub told_true : r ≡ true → t ≡ true
-  told_true h = sym e ∙ h
-
-  pub told_false : r ≡ false → t ≡ false
-  told_false h = sym e ∙ h
-
   pub told_not_true : not r ≡ true → t ≡ false
   told_not_true h = sym e ∙ not-true r h
 
   pub told_not_false : not r ≡ false → t ≡ true
   told_not_false h = sym e ∙ not-false r h
 
-pub ruleset told = (told_true, told_false, told_not_true, told_not_false)
+-- std's `take_while` takes the bytes that the scan counts
+scan_prefix : (p : ℕ → Bool) (s : List ℕ) → scan p s ≡ prefix_len p s
+unfolding scan
+scan_prefix p [] = refl
+scan_prefix p (x ∷ xs) = let h = scan_prefix p xs in ap (λ (n : ℕ). cond (p x) n 0) (omega arith)
 
-module _ (p : ℕ → Bool) where
-  pub scan_le : (s : List ℕ) → scan p s ≤ length s
-  unfolding scan
-  scan_le [] = omega arith
-  scan_le (x ∷ xs) = go (p x) (scan_le xs)
-    where
-      go : (t : Bool) → scan p xs ≤ length xs → cond t (suc (scan p xs)) 0 ≤ suc (length xs)
-      go true h = omega arith
-      go false h = omega arith
+pub scan_taken : (p : ℕ → Bool) (s : List ℕ) → length (take_while p s) ≡ scan p s
+scan_taken p s = length-prefix_len p s ∙ sym (scan_prefix p s)
 
-  module _ (s : List ℕ) where
-    pub scan_start : scan p s ≡ 0 + scan p (drop 0 s)
-    scan_start = sym (zero-add (scan p s))
-
-    module _ (i : ℕ) where
-      pub scan_more : i < length s → p (get_or s i 0) ≡ true → scan p s ≡ i + scan p (drop i s) → scan p s ≡ (i + 1) + scan p (drop (i + 1) s)
-      unfolding scan
-      scan_more h t e = e ∙ rw (drop_next s i h, t) (omega arith)
-
-      pub scan_stop : i < length s → p (get_or s i 0) ≡ false → scan p s ≡ i + scan p (drop i s) → i ≡ scan p s
-      unfolding scan
-      scan_stop h t e = sym (e ∙ rw (drop_next s i h, t) (omega arith))
-
-      pub scan_end : length s ≤ i → scan p s ≡ i + scan p (drop i s) → i ≡ scan p s
-      unfolding scan
-      scan_end h e = sym (e ∙ rw (drop_of_length-le s h) (omega arith))
-
-pub ruleset scan_laws = (scan_start, scan_more, scan_stop, scan_end, told, rules)
+pub scan_le : (p : ℕ → Bool) (s : List ℕ) → scan p s ≤ length s
+scan_le p s = rw (scan_prefix p s) (prefix_len-le-length p s)
 
 -- what a caller needs of a count that a scan returned: it lies within the text, and the part `&s[..r]` has that length
 module _ (p : ℕ → Bool) (l : List ℕ) (r : ℕ) where
@@ -92,13 +69,7 @@ pub ruleset within_laws = (scan_within, scan_counts)
 
 -- where the scan stops short, the test fails at the byte that stopped it
 pub scan_stopped : (p : ℕ → Bool) (s : List ℕ) → scan p s < length s → p (get_or s (scan p s) 0) ≡ false
-unfolding scan
-scan_stopped p [] h = absurd (omega arith)
-scan_stopped p (x ∷ xs) h = go (p x) refl (scan_stopped p xs) h
-  where
-    go : (t : Bool) → p x ≡ t → (scan p xs < length xs → p (get_or xs (scan p xs) 0) ≡ false) → cond t (suc (scan p xs)) 0 < suc (length xs) → p (get_or (x ∷ xs) (cond t (suc (scan p xs)) 0) 0) ≡ false
-    go true e f k = f (omega arith)
-    go false e f k = e
+scan_stopped p s = rw (scan_prefix p s) (prefix_len_stops p s 0)
 
 -- the scan takes all exactly where all bytes pass
 pub scan_all : (p : ℕ → Bool) (s : List ℕ) → all p s ≡ true → scan p s ≡ length s

@@ -1,6 +1,5 @@
 -- What an operation answers: a value, or one of document 01's refusals by its number and detail; and the order in which refusals are asked.
-use Rattle.std.specs.Prelude.{ℕ, Bool, true, false, List, ◌++◌, length, drop}
-use Rattle.std.proofs.Math.Option.{Option, none, some}
+use Rattle.std.specs.Prelude.{ℕ, Bool, true, false, List, ◌++◌, length, drop, Option, Some, None}
 
 pub data Answer (A : Type 0) : Type 0 where
   ok : A → Answer A
@@ -24,8 +23,8 @@ refuse_if false n = ok tt
 
 -- refusal n with what was found as its detail
 unfoldable pub refuse_at : Option ℕ → ℕ → Answer (Unit {0})
-refuse_at (some d) n = refused n d
-refuse_at none n = ok tt
+refuse_at (Some d) n = refused n d
+refuse_at None n = ok tt
 
 -- ---- what stands in a lent buffer afterwards
 

@@ -27,69 +27,26 @@ pub enum ByteClass {
 }
 
 // Byte 32 and bytes 9 to 13.
+#[tactic(auto, unfolding(crate::specs::Bytes::is_space))]
 fn is_space(b: u8) -> bool
     ensures { result ≡ is_space b }
 {
-    if b == b' ' {
-        return true;
-    }
-    if b < b'\t' {
-        return false;
-    }
-    b <= b'\r'
-}
-
-// `0` to `9`.
-fn is_digit(b: u8) -> bool
-    ensures { result ≡ is_digit b }
-{
-    if b < b'0' {
-        return false;
-    }
-    b <= b'9'
-}
-
-// `A` to `Z` and `a` to `z`.
-fn is_letter(b: u8) -> bool
-    ensures { result ≡ is_letter b }
-{
-    if b < b'A' {
-        return false;
-    }
-    if b <= b'Z' {
-        return true;
-    }
-    if b < b'a' {
-        return false;
-    }
-    b <= b'z'
-}
-
-// Letters, digits and the underscore.
-fn is_word(b: u8) -> bool
-    ensures { result ≡ is_word b }
-{
-    if is_letter(b) {
-        return true;
-    }
-    if is_digit(b) {
-        return true;
-    }
-    b == b'_'
+    matches!(b, b' ' | b'\t'..=b'\r')
 }
 
 impl ByteClass {
     // Whether b is of the class.
+    #[tactic(auto, unfolding(crate::specs::Bytes::is_digit, crate::specs::Bytes::is_letter, crate::specs::Bytes::is_word))]
     pub fn contains(self, b: u8) -> bool
         ensures { result ≡ holds self b }
     {
         match self {
             ByteClass::Space => is_space(b),
             ByteClass::NotSpace => !is_space(b),
-            ByteClass::Digit => is_digit(b),
-            ByteClass::Letter => is_letter(b),
-            ByteClass::Word => is_word(b),
-            ByteClass::Ascii => b <= 127,
+            ByteClass::Digit => b.is_ascii_digit(),
+            ByteClass::Letter => b.is_ascii_alphabetic(),
+            ByteClass::Word => b.is_ascii_alphanumeric() || b == b'_',
+            ByteClass::Ascii => b.is_ascii(),
             ByteClass::Is(x) => b == x,
             ByteClass::IsNot(x) => b != x,
         }
@@ -99,32 +56,16 @@ impl ByteClass {
     pub fn scan(self, text: &[u8]) -> usize
         ensures { result ≡ scan (holds self) text.now }
     {
-        let mut i = 0;
-        while i < text.len() {
-            if !self.contains(text[i]) {
-                return i;
-            }
-            i += 1;
-        }
-        i
+        text.iter().take_while(|b| self.contains(**b)).count()
     }
 }
 
 // Whether a and b hold the same bytes: a part of a text compared with a fixed byte string.
+#[tactic(auto, using(crate::proofs::SameLaws::same_told))]
 pub fn same_bytes(a: &[u8], b: &[u8]) -> bool
     ensures { result ≡ same a.now b.now }
 {
-    if a.len() != b.len() {
-        return false;
-    }
-    let mut i = 0;
-    while i < a.len() {
-        if a[i] != b[i] {
-            return false;
-        }
-        i += 1;
-    }
-    true
+    a == b
 }
 
 // The first line of a text: its length without its ending, and where the next line starts.

@@ -1,95 +1,95 @@
 -- What the writers of numbers ask, a set of laws for each: the loops' turns, the refusals, what is left.
+use Rattle.std.specs.Prelude.{Option, Some, None}
 use Prim.Native.Nat.{ℕ, suc, ◌+◌, ◌-◌, ◌/◌, ◌%◌, ◌<◌, ◌≤◌}
-use mathlib.Core.Path.{◌≡◌, sym, ap, ◌∙◌}
-use mathlib.Core.List.{List, [], ◌∷◌}
+use mathlib.Core.Path.{◌≡◌, refl, sym, ap, ◌∙◌}
+use mathlib.Core.List.{List, [], ◌∷◌, ◌++◌}
 use native.Mathlib.Omega.{arith}
-use native.Mathlib.Numerals.{add-one, add-two}
-use lib.ListN.{length, set, length-set}
-use lib.Seq.{sets}
+use native.Mathlib.Numerals.{add-one}
+use lib.ListN.{length, take, drop, set, length-drop}
+use lib.Seq.{drop-drop, length-take-le}
+use Rattle.std.proofs.Common.{append_assoc, length-append}
+use Rattle.std.proofs.lemmas.List.{drop-set}
+use borrow.Rule.Slice.PartMut.{put_mid}
 use borrow.Author.Rules.{rules}
-use borrow.Author.Tests.{le-ltb, lt-ltb}
-use Rattle.text_write.specs.declared.Put.{Put}
-use Rattle.text_write.specs.Digits.{digit_byte, digits_of, digit_count, prefixed_text, fewest_text, decimal_text}
+use borrow.Author.Tests.{le-leb}
+use Rattle.text_write.specs.Digits.{digit_byte, digits_of, digit_count}
 use Rattle.text_write.specs.Put.{put_into, put_count}
-use Rattle.text_write.proofs.Laws.{sets_append, set_sets, digit_count_positive, digit_count_most, digit_count_64, digit_count_low, digit_count_suc, length_digits, digit_below, length_prefixed, length_decimal}
-use Rattle.text_write.proofs.Steps.{put_laws}
+use Rattle.text_write.proofs.Laws.{count_fits, put_over, count_over, length_put, put_put, digit_count_positive, digit_count_most, digit_count_low, digit_count_suc, length_digits, digit_below}
 
--- ---- digit_byte: the two ranges of digits
-module _ (d : ℕ) where
-  pub byte_decimal : d < 10 → 48 + d ≡ digit_byte d
-  byte_decimal h = simp (lt-ltb _ _ h)
+-- ---- count_digits: x is what the loop set out to count, n what it has counted
+module _ (base x n v : ℕ) where
+  pub more_stop : v < base → 1 + x ≡ n + digit_count base (64 - n) v → n ≡ x
+  more_stop h e = let z = digit_count_low base (64 - n) v h in omega arith
 
-  pub byte_letter : 10 ≤ d → 97 + (d - 10) ≡ digit_byte d
-  byte_letter h = let e : 97 + (d - 10) ≡ 87 + d = omega arith in e ∙ simp (le-ltb _ _ h)
-
--- ---- count_digits: x is what the loop set out to count
-module _ (base x k n v : ℕ) where
-  pub more_stop : v < base → 1 + x ≡ n + digit_count base k v → n ≡ x
-  more_stop h e = let z = digit_count_low base k v h in omega arith
-
-  pub more_next : 0 < k → base ≤ v → 1 + x ≡ n + digit_count base k v → 1 + x ≡ (n + 1) + digit_count base (k - 1) (v / base)
+  pub more_next : n < 64 → base ≤ v → 1 + x ≡ n + digit_count base (64 - n) v → 1 + x ≡ (n + 1) + digit_count base (64 - (n + 1)) (v / base)
   more_next p h e =
-      let q : k ≡ suc (k - 1) = omega arith in
-      let z = ap (λ (j : ℕ). digit_count base j v) q ∙ digit_count_suc base (k - 1) v h in
+      let q : 64 - n ≡ suc (64 - (n + 1)) = omega arith in
+      let z = ap (λ (j : ℕ). digit_count base j v) q ∙ digit_count_suc base (64 - (n + 1)) v h in
       omega arith
 
-  pub more_end : k ≤ 0 → 1 + x ≡ n + digit_count base k v → n ≡ x
-  more_end h e =
-      let p = digit_count_positive base k v in
-      let m = digit_count_most base k v in
+  pub more_end : 64 ≤ n → n ≤ 64 → 1 + x ≡ n + digit_count base (64 - n) v → 64 ≡ x
+  more_end h k e =
+      let p = digit_count_positive base (64 - n) v in
+      let m = digit_count_most base (64 - n) v in
       omega arith
 
 pub ruleset count_laws = (more_stop, more_next, more_end, rules)
 
--- ---- put_digits: x is what the stores come to; the last digit may be stored before those ahead of it
-digits_suc : (d : List ℕ) (at base n v : ℕ) → sets d at (digits_of base (suc n) v) ≡ sets (set d (at + n) (digit_byte (v % base))) at (digits_of base n (v / base))
-unfolding digits_of
-digits_suc d at base n v =
-    let w : List ℕ = digits_of base n (v / base) in
-    let x : ℕ = digit_byte (v % base) in
-    let l : length w ≡ n = length_digits base n (v / base) in
-    sets_append w (x ∷ []) d at
-    ∙ ap (λ (k : ℕ). set (sets d at w) (at + k) x) l
-    ∙ sym (set_sets w d at (at + n) x (omega arith))
-
-module _ (x d : List ℕ) (at base i v : ℕ) where
-  pub digits_more : (r : ℕ) → 0 < i → r ≡ digit_byte (v % base) → x ≡ sets d at (digits_of base i v) → x ≡ sets (set d (at + (i - 1)) r) at (digits_of base (i - 1) (v / base))
-  digits_more r h e p =
-      let q : i ≡ suc (i - 1) = omega arith in
-      p
-      ∙ ap (λ (j : ℕ). sets d at (digits_of base j v)) q
-      ∙ digits_suc d at base (i - 1) v
-      ∙ ap (λ (y : ℕ). sets (set d (at + (i - 1)) y) at (digits_of base (i - 1) (v / base))) (sym e)
-
-  pub digits_end : i ≤ 0 → x ≡ sets d at (digits_of base i v) → d ≡ x
+-- ---- put_digits: x is what the digits come to; the last of them stands before those that are written
+module _ (x d : List ℕ) (base i v : ℕ) where
+  pub digits_more : (r : ℕ) → i < length d → r ≡ digit_byte (v % base) → x ≡ digits_of base (i + 1) v ++ drop (i + 1) d → x ≡ digits_of base i (v / base) ++ drop i (set d i r)
   unfolding digits_of
-  digits_end h p = let q : i ≡ 0 = omega arith in sym (p ∙ ap (λ (j : ℕ). sets d at (digits_of base j v)) q)
+  digits_more r h e p =
+      let q : digits_of base (i + 1) v ≡ digits_of base i (v / base) ++ (digit_byte (v % base) ∷ []) = rw add-one refl in
+      let t : drop i (set d i r) ≡ digit_byte (v % base) ∷ drop (i + 1) d = drop-set d i r h ∙ ap (λ (k : ℕ). k ∷ drop (i + 1) d) e in
+      p
+      ∙ ap (λ (l : List ℕ). l ++ drop (i + 1) d) q
+      ∙ append_assoc (digits_of base i (v / base)) (digit_byte (v % base) ∷ []) (drop (i + 1) d)
+      ∙ ap (λ (l : List ℕ). digits_of base i (v / base) ++ l) (sym t)
 
-pub ruleset digits_laws = (digit_below, digits_more, digits_end, length-set, rules)
+  pub digits_end : i ≤ 0 → x ≡ digits_of base i v ++ drop i d → d ≡ x
+  unfolding digits_of
+  digits_end h p = let q : i ≡ 0 = omega arith in sym (p ∙ ap (λ (k : ℕ). digits_of base k v ++ drop k d) q)
 
--- ---- put_prefixed: `0`, `x` and the digits, stored one behind the other
-pub prefixed_sets : (d : List ℕ) (at n v : ℕ) (b : List ℕ) → b ≡ sets (set (set d at 48) (at + 1) 120) (at + 2) (digits_of 16 n v) → b ≡ sets d at (prefixed_text n v)
-prefixed_sets d at n v b e = rw (add-one at, add-two at) at e
+pub ruleset digits_laws = (digit_below, digits_more)
 
-pub ruleset prefixed_laws = (length_prefixed, prefixed_sets, put_laws, rules)
+-- ---- put_number: the prefix and the digits, put one behind the other
+part_put : (d : List ℕ) (at end : ℕ) (w ys : List ℕ) → ys ≡ w → end ≡ at + length w → end ≤ length d → put_mid at (end - at) d ys ≡ put_into d at w
+unfolding put_into
+part_put d at end w ys e f h =
+    let l : at + length w ≤ length d = omega arith in
+    let q : drop (end - at) (drop at d) ≡ drop (at + length w) d = drop-drop (end - at) at d ∙ ap (λ (k : ℕ). drop k d) (omega arith) in
+    ap (λ (b : List ℕ). take at d ++ (ys ++ b)) q
+    ∙ ap (λ (y : List ℕ). take at d ++ (y ++ drop (at + length w) d)) e
+    ∙ sym (append_assoc (take at d) w (drop (at + length w) d))
+    ∙ sym (rw (le-leb (at + length w) (length d) l) refl)
 
--- ---- put_fewest and put_decimal: m digits were counted
-module _ (d : List ℕ) (at v m : ℕ) where
-  pub fewest_count : (r : Put) → m ≡ digit_count 16 63 v → r ≡ put_count d at (prefixed_text m v) → r ≡ put_count d at (fewest_text v)
-  fewest_count r e p = rw e at p
+module _ (d v : List ℕ) (at base count number : ℕ) where
+  -- the text of the number, and how long it is
+  abbrev whole : List ℕ
+  whole = v ++ digits_of base count number
 
-  pub fewest_into : (b : List ℕ) → m ≡ digit_count 16 63 v → b ≡ put_into d at (prefixed_text m v) → b ≡ put_into d at (fewest_text v)
-  fewest_into b e p = rw e at p
+  long : length whole ≡ length v + count
+  long = length-append v (digits_of base count number) ∙ ap (λ (k : ℕ). length v + k) (length_digits base count number)
 
-  pub decimal_long : m ≡ digit_count 10 63 v → length (decimal_text v) ≡ m
-  decimal_long e = length_decimal v ∙ sym e
+  pub number_short : (r : Option ℕ) → r ≡ None → length d < at + length v + count → (r ≡ put_count d at whole) × (d ≡ put_into d at whole)
+  number_short r e h = let l = long in (e ∙ sym (count_over d at whole (omega arith)), sym (put_over d at whole (omega arith)))
 
-  pub decimal_sets : (b : List ℕ) → m ≡ digit_count 10 63 v → b ≡ sets d at (digits_of 10 m v) → b ≡ sets d at (decimal_text v)
-  decimal_sets b e p = rw e at p
-
-pub counted_fits : (base v m : ℕ) → m ≡ digit_count base 63 v → m ≤ 64
-counted_fits base v m e = let h = digit_count_64 base v in omega arith
-
-pub ruleset fewest_laws = (fewest_count, fewest_into, counted_fits, rules)
-
-pub ruleset decimal_laws = (decimal_long, decimal_sets, put_laws, rules)
+  -- x is what stands in the first part of the text, and y what stands in the second
+  pub number_put : (first end : ℕ) (x y : List ℕ) → first ≡ at + length v → end ≡ first + count → end ≤ length d → x ≡ v → y ≡ digits_of base (length (take (end - first) (drop first (put_mid at (first - at) d x)))) number → (Some (end - at) ≡ put_count d at whole) × (put_mid first (end - first) (put_mid at (first - at) d x) y ≡ put_into d at whole)
+  number_put first end x y e f h p q =
+      let w : List ℕ = digits_of base count number in
+      let l = long in
+      let n : length w ≡ count = length_digits base count number in
+      let b : List ℕ = put_mid at (first - at) d x in
+      let i : b ≡ put_into d at v = part_put d at first v x p e (omega arith) in
+      let k : length b ≡ length d = ap length i ∙ length_put d at v in
+      let j = length-drop first b in
+      let m : length (take (end - first) (drop first b)) ≡ count = length-take-le (end - first) (drop first b) (omega arith) ∙ omega arith in
+      let t : y ≡ w = q ∙ ap (λ (z : ℕ). digits_of base z number) m in (
+        sym (count_fits d at whole (omega arith) ∙ ap Some (omega arith)),
+        ap (λ (z : List ℕ). put_mid first (end - first) z y) i
+            ∙ part_put (put_into d at v) first end w y t (omega arith) (omega (arith, length_put d at v))
+            ∙ ap (λ (z : ℕ). put_into (put_into d at v) z w) e
+            ∙ put_put d at v w (omega arith),
+      )

@@ -2,22 +2,19 @@
 // A public writer writes at byte `at` where all fits, and says how many bytes; otherwise it leaves the text as it is.
 #![tactic(auto)]
 
-ghost use Rattle.std.specs.Prelude.{◌≡◌, ◌+◌, ◌≤◌, ◌<◌, length};
-ghost use Rattle.std.proofs.lemmas.List.Edits.{sets};
-ghost use Rattle.text_write.specs.Digits.{digit_byte, digit_count, digits_of, prefixed_text, fewest_text, sixteen_text, decimal_text};
+ghost use Rattle.std.specs.Prelude.{◌≡◌, ◌≤◌, ◌<◌, ◌++◌, length};
+ghost use Rattle.text_write.specs.Digits.{digit_byte, digit_count, digits_of, fewest_text, sixteen_text, decimal_text};
 ghost use Rattle.text_write.specs.Put.{put_count, put_into};
 
-use text_write::Put;
-
 // The byte of a digit: `0` to `9`, then `a` to `f`.
-fn digit_byte(digit: u64) -> u8
+fn digit_byte(digit: u8) -> u8
     requires { digit < 16 }
     ensures { result ≡ digit_byte digit }
 {
     if digit < 10 {
-        b'0' + (digit as u8)
+        b'0' + digit
     } else {
-        b'a' + ((digit - 10) as u8)
+        b'a' + (digit - 10)
     }
 }
 
@@ -26,77 +23,68 @@ fn count_digits(number: u64, base: u64) -> usize
     requires { (2 ≤ base) × (base ≤ 16) }
     ensures { result ≡ digit_count base 63 number }
 {
-    let mut left: usize = 63;
-    let mut count: usize = 1;
     let mut rest = number;
-    while 0 < left {
+    for count in 1..64 {
         if rest < base {
             return count;
         }
-        rest = rest / base;
-        count += 1;
-        left -= 1;
+        rest /= base;
     }
-    count
+    64
 }
 
-// Writes the lowest digits of number, as many as count says.
-fn put_digits(text: &mut [u8], at: usize, count: usize, number: u64, base: u64)
-    requires { (2 ≤ base) × (base ≤ 16) × (at + count ≤ length text.old) }
-    ensures { text.new ≡ sets text.old at (digits_of base count number) }
+// Writes the lowest digits of number, as many as there are bytes.
+#[tactic(auto, using(crate::proofs::Steps::digits_laws))]
+fn put_digits(bytes: &mut [u8], number: u64, base: u64)
+    requires { (2 ≤ base) × (base ≤ 16) }
+    ensures { bytes.new ≡ digits_of base (length bytes.old) number }
 {
-    let mut i = count;
     let mut rest = number;
-    while 0 < i {
-        i -= 1;
-        text[at + i] = digit_byte(rest % base);
-        rest = rest / base;
+    for i in (0..bytes.len()).rev() {
+        bytes[i] = digit_byte((rest % base) as u8);
+        rest /= base;
     }
 }
 
-// Writes `0x` and as many hexadecimal digits as count says.
-fn put_prefixed(text: &mut [u8], at: usize, count: usize, number: u64) -> Put
-    requires { count ≤ 64 }
-    ensures { (result ≡ put_count text.old at (prefixed_text count number)) × (text.new ≡ put_into text.old at (prefixed_text count number)) }
+// Writes the prefix and as many digits as count says.
+fn put_number(
+    text: &mut [u8],
+    at: usize,
+    prefix: &[u8],
+    count: usize,
+    number: u64,
+    base: u64,
+) -> Option<usize>
+    requires { (2 ≤ base) × (base ≤ 16) }
+    ensures { (result ≡ put_count text.old at (prefix.now ++ digits_of base count number)) × (text.new ≡ put_into text.old at (prefix.now ++ digits_of base count number)) }
 {
-    let size = count + 2;
-    if text.len() < size {
-        return Put::Short;
+    let first = at.checked_add(prefix.len())?;
+    let end = first.checked_add(count)?;
+    if text.len() < end {
+        return None;
     }
-    if text.len() - size < at {
-        return Put::Short;
-    }
-    text[at] = b'0';
-    text[at + 1] = b'x';
-    put_digits(text, at + 2, count, number, 16);
-    Put::Count(size)
+    text[at..first].copy_from_slice(prefix);
+    put_digits(&mut text[first..end], number, base);
+    Some(end - at)
 }
 
 // Writes `0x` and the fewest lower-case digits.
-pub fn put_fewest(text: &mut [u8], at: usize, number: u64) -> Put
+pub fn put_fewest(text: &mut [u8], at: usize, number: u64) -> Option<usize>
     ensures { (result ≡ put_count text.old at (fewest_text number)) × (text.new ≡ put_into text.old at (fewest_text number)) }
 {
-    put_prefixed(text, at, count_digits(number, 16), number)
+    put_number(text, at, b"0x", count_digits(number, 16), number, 16)
 }
 
 // Writes `0x` and sixteen lower-case digits.
-pub fn put_sixteen(text: &mut [u8], at: usize, number: u64) -> Put
+pub fn put_sixteen(text: &mut [u8], at: usize, number: u64) -> Option<usize>
     ensures { (result ≡ put_count text.old at (sixteen_text number)) × (text.new ≡ put_into text.old at (sixteen_text number)) }
 {
-    put_prefixed(text, at, 16, number)
+    put_number(text, at, b"0x", 16, number, 16)
 }
 
 // Writes the fewest decimal digits.
-pub fn put_decimal(text: &mut [u8], at: usize, number: u64) -> Put
+pub fn put_decimal(text: &mut [u8], at: usize, number: u64) -> Option<usize>
     ensures { (result ≡ put_count text.old at (decimal_text number)) × (text.new ≡ put_into text.old at (decimal_text number)) }
 {
-    let count = count_digits(number, 10);
-    if text.len() < count {
-        return Put::Short;
-    }
-    if text.len() - count < at {
-        return Put::Short;
-    }
-    put_digits(text, at, count, number, 10);
-    Put::Count(count)
+    put_number(text, at, b"", count_digits(number, 10), number, 10)
 }

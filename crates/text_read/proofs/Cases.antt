@@ -1,11 +1,10 @@
 -- Inputs that separate likely misreadings of the numbers, each beside the answer that is due.
+use Rattle.std.specs.Prelude.{Option, Some, None}
 use Prim.Native.Nat.{ℕ, ◌^◌}
 use mathlib.Core.Path.{◌≡◌, refl}
 use mathlib.Core.List.{List, [], ◌∷◌, map}
 use Rattle.text.specs.Bytes.{bytes, is_digit}
 use Rattle.text.specs.Scan.{all}
-use Rattle.text_read.specs.declared.Numeral.{Numeral}
-use Rattle.text_read.specs.declared.Numeral.TheVariants.{Value, Nothing}
 use Rattle.text_read.specs.Numerals.{digit_value, value_from, numeral, unprefixed, hexadecimal, decimal}
 
 -- every input of the table gives the answer beside it
@@ -29,46 +28,46 @@ unfolding digit_value is_digit
 digits_right = refl
 
 -- first words, which are below 2 ^ 64
-abbrev first_words : List (List ℕ × Numeral)
+abbrev first_words : List (List ℕ × Option ℕ)
 first_words =
-    (bytes "800000", Value 0x800000)
-    ∷ (bytes "+800000", Value 0x800000)
-    ∷ (bytes "0x800000", Value 0x800000)
-    ∷ (bytes "0x+800000", Value 0x800000)
-    ∷ (bytes "0x0x800000", Value 0x800000)
-    ∷ (bytes "0x0x+800000", Value 0x800000)
+    (bytes "800000", Some 0x800000)
+    ∷ (bytes "+800000", Some 0x800000)
+    ∷ (bytes "0x800000", Some 0x800000)
+    ∷ (bytes "0x+800000", Some 0x800000)
+    ∷ (bytes "0x0x800000", Some 0x800000)
+    ∷ (bytes "0x0x+800000", Some 0x800000)
     -- either case, any count of leading zeros, up to the largest word
-    ∷ (bytes "0x0", Value 0)
-    ∷ (bytes "aBcDeF", Value 0xabcdef)
-    ∷ (bytes "0xFFFFFFFFFFFFFFFF", Value 0xffff_ffff_ffff_ffff)
-    ∷ (bytes "0xffffffffffffffff", Value 0xffff_ffff_ffff_ffff)
-    ∷ (bytes "000000000000000000000000000000000000000010", Value 16)
-    ∷ (bytes "0x+000000000000000000000000000000000000000010", Value 16)
-    ∷ (bytes "0x10000000000000000", Nothing)
-    ∷ (bytes "10000000000000000", Nothing)
+    ∷ (bytes "0x0", Some 0)
+    ∷ (bytes "aBcDeF", Some 0xabcdef)
+    ∷ (bytes "0xFFFFFFFFFFFFFFFF", Some 0xffff_ffff_ffff_ffff)
+    ∷ (bytes "0xffffffffffffffff", Some 0xffff_ffff_ffff_ffff)
+    ∷ (bytes "000000000000000000000000000000000000000010", Some 16)
+    ∷ (bytes "0x+000000000000000000000000000000000000000010", Some 16)
+    ∷ (bytes "0x10000000000000000", None)
+    ∷ (bytes "10000000000000000", None)
     -- no digit
-    ∷ (bytes "", Nothing)
-    ∷ (bytes "0x", Nothing)
-    ∷ (bytes "0x0x", Nothing)
-    ∷ (bytes "+", Nothing)
-    ∷ (bytes "0x+", Nothing)
+    ∷ (bytes "", None)
+    ∷ (bytes "0x", None)
+    ∷ (bytes "0x0x", None)
+    ∷ (bytes "+", None)
+    ∷ (bytes "0x+", None)
     -- one plus at most, behind every `0x`, and no other sign
-    ∷ (bytes "++1", Nothing)
-    ∷ (bytes "+0x800000", Nothing)
-    ∷ (bytes "0x+0x1", Nothing)
-    ∷ (bytes "-0", Nothing)
-    ∷ (bytes "0x-5", Nothing)
+    ∷ (bytes "++1", None)
+    ∷ (bytes "+0x800000", None)
+    ∷ (bytes "0x+0x1", None)
+    ∷ (bytes "-0", None)
+    ∷ (bytes "0x-5", None)
     -- a byte that is no digit
-    ∷ (bytes "0X800000", Nothing)
-    ∷ (bytes "x1", Nothing)
-    ∷ (bytes "00x1", Nothing)
-    ∷ (bytes "0x_1", Nothing)
-    ∷ (bytes "g", Nothing)
-    ∷ (bytes "0x1g", Nothing)
-    ∷ (bytes " 800000", Nothing)
-    ∷ (bytes "800000 ", Nothing)
-    ∷ (bytes "800 000", Nothing)
-    ∷ (bytes "0x 1", Nothing)
+    ∷ (bytes "0X800000", None)
+    ∷ (bytes "x1", None)
+    ∷ (bytes "00x1", None)
+    ∷ (bytes "0x_1", None)
+    ∷ (bytes "g", None)
+    ∷ (bytes "0x1g", None)
+    ∷ (bytes " 800000", None)
+    ∷ (bytes "800000 ", None)
+    ∷ (bytes "800 000", None)
+    ∷ (bytes "0x 1", None)
     ∷ []
 
 first_words_right : Right (hexadecimal (2 ^ 64)) first_words
@@ -76,13 +75,13 @@ unfolding hexadecimal unprefixed numeral all value_from digit_value is_digit
 first_words_right = refl
 
 -- second lines with `0x`, which are below the order
-abbrev hexadecimal_lines : List (List ℕ × Numeral)
+abbrev hexadecimal_lines : List (List ℕ × Option ℕ)
 hexadecimal_lines =
-    (bytes "0x5", Value 5)
-    ∷ (bytes "0xFFFFFFFF00000000", Value 0xffff_ffff_0000_0000)
-    ∷ (bytes "0xFFFFFFFF00000001", Nothing)
-    ∷ (bytes "0xffffffffffffffff", Nothing)
-    ∷ (bytes "0x-5", Nothing)
+    (bytes "0x5", Some 5)
+    ∷ (bytes "0xFFFFFFFF00000000", Some 0xffff_ffff_0000_0000)
+    ∷ (bytes "0xFFFFFFFF00000001", None)
+    ∷ (bytes "0xffffffffffffffff", None)
+    ∷ (bytes "0x-5", None)
     ∷ []
 
 hexadecimal_lines_right : Right (hexadecimal p) hexadecimal_lines
@@ -90,25 +89,25 @@ unfolding hexadecimal unprefixed numeral all value_from digit_value is_digit
 hexadecimal_lines_right = refl
 
 -- decimal digits without their sign, below the order
-abbrev magnitudes : List (List ℕ × Numeral)
+abbrev magnitudes : List (List ℕ × Option ℕ)
 magnitudes =
-    (bytes "0", Value 0)
-    ∷ (bytes "10", Value 10)
-    ∷ (bytes "0000000000000000000000000000000000000000000000000000000000007", Value 7)
-    ∷ (bytes "18446744069414584320", Value 18446744069414584320)
-    ∷ (bytes "18446744069414584321", Nothing)
-    ∷ (bytes "170141183460469231731687303715884105728", Nothing)
-    ∷ (bytes "999999999999999999999999999999999999999999999999999999999999", Nothing)
+    (bytes "0", Some 0)
+    ∷ (bytes "10", Some 10)
+    ∷ (bytes "0000000000000000000000000000000000000000000000000000000000007", Some 7)
+    ∷ (bytes "18446744069414584320", Some 18446744069414584320)
+    ∷ (bytes "18446744069414584321", None)
+    ∷ (bytes "170141183460469231731687303715884105728", None)
+    ∷ (bytes "999999999999999999999999999999999999999999999999999999999999", None)
     -- no digit, a sign, a byte that is no decimal digit
-    ∷ (bytes "", Nothing)
-    ∷ (bytes "+5", Nothing)
-    ∷ (bytes "-5", Nothing)
-    ∷ (bytes "5a", Nothing)
-    ∷ (bytes "ff", Nothing)
-    ∷ (bytes "0x10", Nothing)
-    ∷ (bytes " 5", Nothing)
-    ∷ (bytes "5 ", Nothing)
-    ∷ (bytes "5_0", Nothing)
+    ∷ (bytes "", None)
+    ∷ (bytes "+5", None)
+    ∷ (bytes "-5", None)
+    ∷ (bytes "5a", None)
+    ∷ (bytes "ff", None)
+    ∷ (bytes "0x10", None)
+    ∷ (bytes " 5", None)
+    ∷ (bytes "5 ", None)
+    ∷ (bytes "5_0", None)
     ∷ []
 
 magnitudes_right : Right (decimal p) magnitudes

@@ -1,24 +1,23 @@
 -- Laws of the numbers read from digits: digits one by one, what the loops ask, and what a caller may take from an answer.
-use Prim.Native.Nat.{ℕ, suc, ◌+◌, ◌-◌, ◌*◌, ◌/◌, ◌^◌, ◌<◌, ◌≤◌}
+use Rattle.std.specs.Prelude.{Option, Some, None}
+use Prim.Native.Nat.{ℕ, ◌+◌, ◌-◌, ◌*◌, ◌<◌, ◌≤◌}
 use mathlib.Core.Path.{◌≡◌, refl, sym, ap, ◌∙◌}
 use mathlib.Core.List.{List, [], ◌∷◌, ◌++◌}
-use mathlib.Core.Bool.{Bool, true, false, not, ◌&&◌, and-false, cond}
-use lib.Dec.{ltb}
-use lib.ListN.{length, get_or, take, drop, length-drop, drop_of_length-le}
-use lib.Seq.{drop-cons, take_all}
-use lib.Pow.{pow-add}
-use native.Mathlib.Nat.{pow-le-pow_right, le-div_iff_mul-le, div-lt_iff_lt-mul, le-mul_of_pos_right}
-use native.Mathlib.Numerals.{add-one, add-two}
+use mathlib.Core.Bool.{Bool, true, false, not, ◌&&◌, and-false, and-true, cond}
+use lib.Dec.{eqb, ltb}
+use lib.Pointwise.{pointwise}
+use denote.Ref.{Bor}
+use Rattle.std.specs.Option.{MatchOption, unwrap_or}
+use lib.ListN.{length, get_or, take, drop, drop_of_length-le}
+use lib.Seq.{drop-cons}
+use native.Mathlib.Nat.{le-mul_of_pos_right}
+use native.Mathlib.Numerals.{add-one}
 use native.Mathlib.Omega.{arith}
-use mir.Syntax.{w64}
-use mir.Val.{Fits}
 use borrow.Author.Rules.{rules}
 use borrow.Author.Tests.{le-leb, lt-leb, lt-ltb, le-ltb, eq-eqb, ne_eqb, ltb-true}
 use Rattle.text.specs.Bytes.{within, is_digit}
 use Rattle.text.specs.Scan.{all, is_empty}
-use Rattle.text.proofs.Laws.{other_byte}
-use Rattle.text_read.specs.declared.Numeral.{Numeral}
-use Rattle.text_read.specs.declared.Numeral.TheVariants.{Value, Nothing}
+use Rattle.text.proofs.Laws.{other_byte, part_from}
 use Rattle.text_read.specs.Numerals.{digit_value, is_digit_of, value_from, numeral, unprefixed, without_plus, hexadecimal, decimal}
 
 -- ---- the value of a digit
@@ -26,59 +25,34 @@ module _ (low high b : ℕ) where
   inside : low ≤ b → b ≤ high → within low high b ≡ true
   inside h k = simp (le-leb _ _ h, le-leb _ _ k)
 
-  below : b < low → within low high b ≡ false
-  below h = simp (lt-leb _ _ h)
-
   above : high < b → within low high b ≡ false
   above h = simp (lt-leb _ _ h, and-false)
 
 module _ (b : ℕ) where
-  pub digit_below : b < 48 → 16 ≡ digit_value b
-  unfolding digit_value is_digit
-  digit_below h = simp (below 48 57 b h, below 97 102 b (omega arith), below 65 70 b (omega arith))
-
   pub digit_decimal : 48 ≤ b → b ≤ 57 → b - 48 ≡ digit_value b
   unfolding digit_value is_digit
   digit_decimal h k = simp (inside 48 57 b h k)
-
-  pub digit_between : 57 < b → b < 65 → 16 ≡ digit_value b
-  unfolding digit_value is_digit
-  digit_between h k = simp (above 48 57 b h, below 97 102 b (omega arith), below 65 70 b k)
-
-  pub digit_upper : 65 ≤ b → b ≤ 70 → b - 65 + 10 ≡ digit_value b
-  unfolding digit_value is_digit
-  digit_upper h k = let e : b - 65 + 10 ≡ b - 55 = omega arith in e ∙ simp (above 48 57 b (omega arith), below 97 102 b (omega arith), inside 65 70 b h k)
-
-  pub digit_gap : 70 < b → b < 97 → 16 ≡ digit_value b
-  unfolding digit_value is_digit
-  digit_gap h k = simp (above 48 57 b (omega arith), below 97 102 b k, above 65 70 b h)
 
   pub digit_lower : 97 ≤ b → b ≤ 102 → b - 97 + 10 ≡ digit_value b
   unfolding digit_value is_digit
   digit_lower h k = let e : b - 97 + 10 ≡ b - 87 = omega arith in e ∙ simp (above 48 57 b (omega arith), inside 97 102 b h k)
 
-  pub digit_above : 102 < b → 16 ≡ digit_value b
-  unfolding digit_value is_digit
-  digit_above h = simp (above 48 57 b (omega arith), above 97 102 b h, above 65 70 b (omega arith))
-
-pub ruleset digit_laws = (digit_below, digit_decimal, digit_between, digit_upper, digit_gap, digit_lower, digit_above, rules)
-
 -- ---- digits one by one: the digits of the list after digits of value v
-unfoldable pub numeral_from : ℕ → ℕ → ℕ → List ℕ → Numeral
-numeral_from base bound v [] = cond (ltb v bound) (Value v) Nothing
+unfoldable pub numeral_from : ℕ → ℕ → ℕ → List ℕ → Option ℕ
+numeral_from base bound v [] = cond (ltb v bound) (Some v) None
 numeral_from base bound v (x ∷ xs) =
-    cond (is_digit_of base x) (numeral_from base bound (v * base + digit_value x) xs) Nothing
+    cond (is_digit_of base x) (numeral_from base bound (v * base + digit_value x) xs) None
 
 -- the two ways to say it agree
 module _ (base bound : ℕ) where
-  from_whole : (v : ℕ) (l : List ℕ) → numeral_from base bound v l ≡ cond (all (is_digit_of base) l && ltb (value_from base v l) bound) (Value (value_from base v l)) Nothing
+  from_whole : (v : ℕ) (l : List ℕ) → numeral_from base bound v l ≡ cond (all (is_digit_of base) l && ltb (value_from base v l) bound) (Some (value_from base v l)) None
   unfolding numeral_from all value_from
   from_whole v [] = refl
   from_whole v (x ∷ xs) =
       let n = v * base + digit_value x in
       go (is_digit_of base x) (all (is_digit_of base) xs) (ltb (value_from base n xs) bound) _ _ (from_whole n xs)
     where
-      go : (t u w : Bool) (n m : Numeral) → n ≡ cond (u && w) m Nothing → cond t n Nothing ≡ cond ((t && u) && w) m Nothing
+      go : (t u w : Bool) (n m : Option ℕ) → n ≡ cond (u && w) m None → cond t n None ≡ cond ((t && u) && w) m None
       go true u w n m e = e
       go false u w n m e = refl
 
@@ -87,19 +61,19 @@ module _ (base bound : ℕ) where
   whole_from [] h = absurd (h refl)
   whole_from (x ∷ xs) h = sym (from_whole 0 (x ∷ xs))
 
-  pub whole_none : (s : List ℕ) → length s ≡ 0 → Nothing ≡ numeral base bound s
+  pub whole_none : (s : List ℕ) → length s ≡ 0 → None ≡ numeral base bound s
   unfolding numeral
   whole_none [] h = refl
   whole_none (x ∷ xs) h = absurd (omega arith)
 
   -- no further digit brings a value at or above the bound back
-  from_over : (v : ℕ) (l : List ℕ) → 1 ≤ base → bound ≤ v → numeral_from base bound v l ≡ Nothing
+  from_over : (v : ℕ) (l : List ℕ) → 1 ≤ base → bound ≤ v → numeral_from base bound v l ≡ None
   unfolding numeral_from
   from_over v [] p h = simp (le-ltb _ _ h)
   from_over v (x ∷ xs) p h =
       go (is_digit_of base x) (from_over (v * base + digit_value x) xs p (let k = le-mul_of_pos_right v p in omega arith))
     where
-      go : (t : Bool) {n : Numeral} → n ≡ Nothing → cond t n Nothing ≡ Nothing
+      go : (t : Bool) {n : Option ℕ} → n ≡ None → cond t n None ≡ None
       go true e = e
       go false e = refl
 
@@ -109,165 +83,104 @@ module _ (base bound : ℕ) (s : List ℕ) (i v d : ℕ) (h : i < length s) (is 
   unfolding numeral_from
   from_digit k = rw (add-one, drop-cons s i 0, is) (simp (lt-ltb _ _ (rw is at k)))
 
-  from_other : base ≤ d → numeral_from base bound v (drop i s) ≡ Nothing
+  from_other : base ≤ d → numeral_from base bound v (drop i s) ≡ None
   unfolding numeral_from
   from_other k = rw (drop-cons s i 0) (simp (le-ltb _ _ (rw is at k)))
-
--- ---- the bound that the loop tests before it multiplies
-module _ (base most v d : ℕ) (p : 2 ≤ base) (k : d ≤ most) where
-  pub next_over : (most - d) / base < v → most + 1 ≤ v * base + d
-  next_over h =
-      let q : 0 < base = omega arith in
-      let r : most - d < v * base = (div-lt_iff_lt-mul q).0 h in
-      omega arith
-
-  pub next_within : v ≤ (most - d) / base → v * base + d ≤ most
-  next_within h =
-      let q : 0 < base = omega arith in
-      let r : v * base ≤ most - d = (le-div_iff_mul-le q).0 h in
-      omega arith
 
 -- the shapes in which the loop asks: e is the invariant's equation
 module _ (base most : ℕ) (s : List ℕ) where
   pub read_start : (length s ≡ 0 → ⊥) → numeral base (most + 1) s ≡ numeral_from base (most + 1) 0 (drop 0 s)
   read_start h = whole_from base (most + 1) s h
 
-  pub read_none : length s ≡ 0 → Nothing ≡ numeral base (most + 1) s
+  pub read_none : length s ≡ 0 → None ≡ numeral base (most + 1) s
   read_none h = whole_none base (most + 1) s h
 
   module _ (i v d : ℕ) where
-    pub read_other : i < length s → d ≡ digit_value (get_or s i 0) → base ≤ d → numeral base (most + 1) s ≡ numeral_from base (most + 1) v (drop i s) → Nothing ≡ numeral base (most + 1) s
+    pub read_other : i < length s → d ≡ digit_value (get_or s i 0) → base ≤ d → numeral base (most + 1) s ≡ numeral_from base (most + 1) v (drop i s) → None ≡ numeral base (most + 1) s
     read_other h is k e = sym (e ∙ from_other base (most + 1) s i v d h is k)
 
-    pub read_beyond : 2 ≤ base → i < length s → d ≡ digit_value (get_or s i 0) → d < base → most < d → numeral base (most + 1) s ≡ numeral_from base (most + 1) v (drop i s) → Nothing ≡ numeral base (most + 1) s
-    read_beyond p h is k o e =
-        sym (e ∙ from_digit base (most + 1) s i v d h is k ∙ from_over base (most + 1) (v * base + d) (drop (i + 1) s) (omega arith) (omega arith))
-
-    pub read_over : 2 ≤ base → i < length s → d ≡ digit_value (get_or s i 0) → d < base → d ≤ most → (most - d) / base < v → numeral base (most + 1) s ≡ numeral_from base (most + 1) v (drop i s) → Nothing ≡ numeral base (most + 1) s
-    read_over p h is k m o e =
-        sym (e ∙ from_digit base (most + 1) s i v d h is k ∙ from_over base (most + 1) (v * base + d) (drop (i + 1) s) (omega arith) (next_over base most v d p m o))
+    pub read_over : 1 ≤ base → i < length s → d ≡ digit_value (get_or s i 0) → d < base → most < v * base + d → numeral base (most + 1) s ≡ numeral_from base (most + 1) v (drop i s) → None ≡ numeral base (most + 1) s
+    read_over p h is k o e =
+        sym (e ∙ from_digit base (most + 1) s i v d h is k ∙ from_over base (most + 1) (v * base + d) (drop (i + 1) s) p (omega arith))
 
     pub read_on : i < length s → d ≡ digit_value (get_or s i 0) → d < base → numeral base (most + 1) s ≡ numeral_from base (most + 1) v (drop i s) → numeral base (most + 1) s ≡ numeral_from base (most + 1) (v * base + d) (drop (i + 1) s)
     read_on h is k e = e ∙ from_digit base (most + 1) s i v d h is k
 
-  pub read_end : (i v : ℕ) → length s ≤ i → v ≤ most → numeral base (most + 1) s ≡ numeral_from base (most + 1) v (drop i s) → Value v ≡ numeral base (most + 1) s
+  pub read_end : (i v : ℕ) → length s ≤ i → v ≤ most → numeral base (most + 1) s ≡ numeral_from base (most + 1) v (drop i s) → Some v ≡ numeral base (most + 1) s
   unfolding numeral_from
   read_end i v h k e = sym (e ∙ rw (drop_of_length-le s h) (simp (lt-ltb v (most + 1) (omega arith))))
 
-module _ (base most v d : ℕ) where
-  pub product_fits : 2 ≤ base → d ≤ most → v ≤ (most - d) / base → Fits w64 most → Fits w64 (v * base)
-  product_fits p k h f = let r = next_within base most v d p k h in omega arith
+  pub read_beyond : (i v : ℕ) → 1 ≤ base → most < v → numeral base (most + 1) s ≡ numeral_from base (most + 1) v (drop i s) → None ≡ numeral base (most + 1) s
+  read_beyond i v p k e = sym (e ∙ from_over base (most + 1) v (drop i s) p (omega arith))
 
-  pub sum_fits : 2 ≤ base → d ≤ most → v ≤ (most - d) / base → Fits w64 most → Fits w64 (v * base + d)
-  sum_fits p k h f = let r = next_within base most v d p k h in omega arith
+pub ruleset read_laws = (read_none, read_start, read_other, read_over, read_on, read_end, read_beyond, rules)
 
-pub ruleset read_laws = (read_none, read_start, read_other, read_beyond, read_over, read_on, read_end, product_fits, sum_fits, next_within, rules)
-
--- ---- sixteen digits, whose value is below 2 ^ 64
-sixteen_more : (v d i : ℕ) → v < 16 ^ i → d < 16 → v * 16 + d < 16 ^ (i + 1)
-sixteen_more v d i h k = let e = pow-add 16 i 1 in let f : 16 ^ 1 ≡ 16 = refl in rw (e, f) (omega arith)
-
-sixteen_most : (i : ℕ) → i < 16 → 16 ^ (i + 1) ≤ 2 ^ 64
-sixteen_most i h = let k : i + 1 ≤ 16 = omega arith in let b : 0 < 16 = omega arith in let m : 16 ^ (i + 1) ≤ 16 ^ 16 = pow-le-pow_right b k in omega (arith, m)
-
-module _ (v d i : ℕ) (h : v < 16 ^ i) (l : i < 16) (k : d < 16) where
-  pub sixteen_on : v * 16 + d < 16 ^ (i + 1)
-  sixteen_on = sixteen_more v d i h k
-
-  pub sixteen_fits : Fits w64 (v * 16 + d)
-  sixteen_fits = let a = sixteen_more v d i h k in let b = sixteen_most i l in omega arith
-
-  pub sixteen_product : Fits w64 (v * 16)
-  sixteen_product = let a = sixteen_fits in omega arith
-
-module _ (most : ℕ) (s : List ℕ) (n : length s ≡ 16) where
-  pub sixteen_start : numeral 16 (most + 1) s ≡ numeral_from 16 (most + 1) 0 (drop 0 s)
-  sixteen_start = whole_from 16 (most + 1) s (λ z. omega arith)
-
-  module _ (i v : ℕ) (e : numeral 16 (most + 1) s ≡ numeral_from 16 (most + 1) v (drop i s)) where
-    pub sixteen_within : 16 ≤ i → v ≤ most → Value v ≡ numeral 16 (most + 1) s
-    sixteen_within h k = read_end 16 most s i v (omega arith) k e
-
-    pub sixteen_over : 16 ≤ i → most < v → Nothing ≡ numeral 16 (most + 1) s
-    sixteen_over h k = sym (e ∙ from_over 16 (most + 1) v (drop i s) (omega arith) (omega arith))
-
-pub ruleset sixteen_laws = (sixteen_start, read_other, read_on, sixteen_on, sixteen_fits, sixteen_product, sixteen_within, sixteen_over, rules)
-
--- ---- the bytes that repeated `0x` takes, at byte i of the text
-drop_two : (s : List ℕ) (i : ℕ) → 2 ≤ length s - i → drop i s ≡ get_or s i 0 ∷ get_or s (i + 1) 0 ∷ drop (i + 2) s
-drop_two s i h =
-    rw (add-one, add-two) (drop-cons s i 0 (omega arith) ∙ ap (λ (l : List ℕ). get_or s i 0 ∷ l) (drop-cons s (suc i) 0 (omega arith)))
-
-unprefixed_short : (l : List ℕ) → length l < 2 → unprefixed l ≡ l
+-- ---- what follows repeated `0x`
+unprefixed_short : (l : List ℕ) → length l < 2 → l ≡ unprefixed l
 unfolding unprefixed
 unprefixed_short [] h = refl
 unprefixed_short (x ∷ []) h = refl
 unprefixed_short (x ∷ y ∷ l) h = absurd (omega arith)
 
-pub prefix_start : (s : List ℕ) → unprefixed s ≡ unprefixed (drop 0 s)
-prefix_start s = refl
+unprefixed_not : (l : List ℕ) → (get_or l 0 0 ≡ 48 → ⊥) → l ≡ unprefixed l
+unfolding unprefixed
+unprefixed_not [] h = refl
+unprefixed_not (x ∷ []) h = refl
+unprefixed_not (x ∷ y ∷ l) h = simp (ne_eqb x 48 h)
 
-module _ (s : List ℕ) (i : ℕ) where
-  pub prefix_not_0 : 2 ≤ length s - i → (get_or s i 0 ≡ 48 → ⊥) → unprefixed s ≡ unprefixed (drop i s) → drop i s ≡ unprefixed s
-  unfolding unprefixed
-  prefix_not_0 h n e = sym (e ∙ rw (drop_two s i h) (simp (ne_eqb _ _ n)))
+unprefixed_not_x : (l : List ℕ) → (get_or l 1 0 ≡ 120 → ⊥) → l ≡ unprefixed l
+unfolding unprefixed
+unprefixed_not_x [] h = refl
+unprefixed_not_x (x ∷ []) h = refl
+unprefixed_not_x (x ∷ y ∷ l) h = simp (ne_eqb y 120 h, and-false)
 
-  pub prefix_not_x : 2 ≤ length s - i → get_or s i 0 ≡ 48 → (get_or s (i + 1) 0 ≡ 120 → ⊥) → unprefixed s ≡ unprefixed (drop i s) → drop i s ≡ unprefixed s
-  unfolding unprefixed
-  prefix_not_x h k n e = sym (e ∙ rw (drop_two s i h) (simp (eq-eqb _ _ k, ne_eqb _ _ n)))
+unprefixed_more : (l : List ℕ) → 2 ≤ length l → get_or l 0 0 ≡ 48 → get_or l 1 0 ≡ 120 → unprefixed l ≡ unprefixed (drop 2 l)
+unfolding unprefixed
+unprefixed_more [] h k m = absurd (omega arith)
+unprefixed_more (x ∷ []) h k m = absurd (omega arith)
+unprefixed_more (x ∷ y ∷ l) h k m = simp (eq-eqb x 48 k, eq-eqb y 120 m)
 
-  pub prefix_on : 2 ≤ length s - i → get_or s i 0 ≡ 48 → get_or s (i + 1) 0 ≡ 120 → unprefixed s ≡ unprefixed (drop i s) → unprefixed s ≡ unprefixed (drop (i + 2) s)
-  unfolding unprefixed
-  prefix_on h k m e = e ∙ rw (drop_two s i h) (simp (eq-eqb _ _ k, eq-eqb _ _ m))
+-- the shapes in which the loop asks: e is the invariant
+module _ (s l : List ℕ) where
+  pub prefix_short : length l < 2 → unprefixed s ≡ unprefixed l → l ≡ unprefixed s
+  prefix_short h e = unprefixed_short l h ∙ sym e
 
-  pub prefix_end : length s - i < 2 → unprefixed s ≡ unprefixed (drop i s) → drop i s ≡ unprefixed s
-  prefix_end h e = sym (e ∙ unprefixed_short (drop i s) (simp length-drop h))
+  pub prefix_not_0 : (get_or l 0 0 ≡ 48 → ⊥) → unprefixed s ≡ unprefixed l → l ≡ unprefixed s
+  prefix_not_0 h e = unprefixed_not l h ∙ sym e
 
-pub ruleset prefix_laws = (prefix_start, prefix_not_0, prefix_not_x, prefix_on, prefix_end, rules)
+  pub prefix_not_x : (get_or l 1 0 ≡ 120 → ⊥) → unprefixed s ≡ unprefixed l → l ≡ unprefixed s
+  prefix_not_x h e = unprefixed_not_x l h ∙ sym e
+
+  pub prefix_on : 2 ≤ length l → get_or l 0 0 ≡ 48 → get_or l 1 0 ≡ 120 → unprefixed s ≡ unprefixed l → unprefixed s ≡ unprefixed (take (length l - 2) (drop 2 l))
+  prefix_on h k m e = e ∙ unprefixed_more l h k m ∙ ap unprefixed (sym (part_from 2 l))
+
+pub ruleset prefix_laws = (prefix_short, prefix_not_0, prefix_not_x, prefix_on, rules)
 
 -- ---- the number after `0x` and a plus
--- the part of the text from byte n on, as the code takes it
-part_from : (s : List ℕ) (n : ℕ) → take (length s - n) (drop n s) ≡ drop n s
-part_from s n = take_all (length s - n) (drop n s) (rw length-drop (omega arith))
+plus_tested : (l : List ℕ) → pointwise eqb (take 1 l) (43 ∷ []) ≡ eqb (get_or l 0 0) 43
+plus_tested [] = refl
+plus_tested (x ∷ l) = and-true (eqb x 43)
 
-plus_none : (bound : ℕ) (l : List ℕ) → length l ≡ 0 → Nothing ≡ numeral 16 bound (without_plus l)
-plus_none bound [] h = whole_none 16 bound [] refl
-plus_none bound (x ∷ l) h = absurd (omega arith)
+-- r is what `strip_prefix` made of l, and n is that or else l
+plus_stripped : (l n : Bor (List ℕ)) (r : Option (Bor (List ℕ))) → MatchOption r (pointwise eqb (take 1 l.now) (43 ∷ []) ≡ false) (λ x. (pointwise eqb (take 1 l.now) (43 ∷ []) ≡ true) × (x.now ≡ drop 1 l.now) × (length x.now + 1 ≡ length l.now)) → n ≡ unwrap_or r l → n.now ≡ without_plus l.now
+plus_stripped l n None h e = rw (sym (plus_tested l.now) ∙ h) (ap (λ (b : Bor (List ℕ)). b.now) e)
+plus_stripped l n (Some x) h e = rw (sym (plus_tested l.now) ∙ h.0) (ap (λ (b : Bor (List ℕ)). b.now) e ∙ h.1)
 
-module _ (bound : ℕ) (l : List ℕ) where
-  plus_some : get_or l 0 0 ≡ 43 → numeral 16 bound (take (length l - 1) (drop 1 l)) ≡ numeral 16 bound (without_plus l)
-  plus_some h = simp (eq-eqb _ _ h) (ap (numeral 16 bound) (part_from l 1))
-
-  plus_not : (get_or l 0 0 ≡ 43 → ⊥) → numeral 16 bound l ≡ numeral 16 bound (without_plus l)
-  plus_not h = simp (ne_eqb _ _ h)
-
-module _ (most n : ℕ) (s : List ℕ) (e : drop n s ≡ unprefixed s) where
-  hex_of : numeral 16 (most + 1) (without_plus (take (length s - n) (drop n s))) ≡ hexadecimal (most + 1) s
-  unfolding hexadecimal
-  hex_of = ap (λ (l : List ℕ). numeral 16 (most + 1) (without_plus l)) (part_from s n ∙ e)
-
-  pub hex_none : length (take (length s - n) (drop n s)) ≡ 0 → Nothing ≡ hexadecimal (most + 1) s
-  hex_none h = plus_none (most + 1) (take (length s - n) (drop n s)) h ∙ hex_of
-
-  pub hex_plus : (r : Numeral) → get_or (take (length s - n) (drop n s)) 0 0 ≡ 43 → r ≡ numeral 16 (most + 1) (take (length (take (length s - n) (drop n s)) - 1) (drop 1 (take (length s - n) (drop n s)))) → r ≡ hexadecimal (most + 1) s
-  hex_plus r h k = k ∙ plus_some (most + 1) (take (length s - n) (drop n s)) h ∙ hex_of
-
-  pub hex_plain : (r : Numeral) → (get_or (take (length s - n) (drop n s)) 0 0 ≡ 43 → ⊥) → r ≡ numeral 16 (most + 1) (take (length s - n) (drop n s)) → r ≡ hexadecimal (most + 1) s
-  hex_plain r h k = k ∙ plus_not (most + 1) (take (length s - n) (drop n s)) h ∙ hex_of
-
-pub ruleset hex_laws = (hex_none, hex_plus, hex_plain, rules)
+pub hex_stripped : (l n : Bor (List ℕ)) (r : Option (Bor (List ℕ))) (bound : ℕ) (s : List ℕ) (a : Option ℕ) → l.now ≡ unprefixed s → MatchOption r (pointwise eqb (take 1 l.now) (43 ∷ []) ≡ false) (λ x. (pointwise eqb (take 1 l.now) (43 ∷ []) ≡ true) × (x.now ≡ drop 1 l.now) × (length x.now + 1 ≡ length l.now)) → n ≡ unwrap_or r l → a ≡ numeral 16 bound n.now → a ≡ hexadecimal bound s
+unfolding hexadecimal
+hex_stripped l n r bound s a e h k m = m ∙ ap (numeral 16 bound) (plus_stripped l n r h k ∙ ap without_plus e)
 
 -- ---- what a caller may take from an answer
 both_true : (t u : Bool) → (t && u) ≡ true → (t ≡ true) × (u ≡ true)
 both_true true u e = (refl, e)
 both_true false u e = let z : ◌≡◌ {A = ℕ} 0 1 = cc in absurd (omega arith)
 
-accepted : (t u : Bool) (m v : ℕ) → cond (t && u) (Value m) Nothing ≡ Value v → (t ≡ true) × (u ≡ true) × (v ≡ m)
+accepted : (t u : Bool) (m v : ℕ) → cond (t && u) (Some m) None ≡ Some v → (t ≡ true) × (u ≡ true) × (v ≡ m)
 accepted true true m v e = (refl, refl, (cc))
 accepted true false m v e = let z : ◌≡◌ {A = ℕ} 0 1 = cc in absurd (omega arith)
 accepted false u m v e = let z : ◌≡◌ {A = ℕ} 0 1 = cc in absurd (omega arith)
 
-module _ (base bound v : ℕ) (s : List ℕ) (e : numeral base bound s ≡ Value v) where
+module _ (base bound v : ℕ) (s : List ℕ) (e : numeral base bound s ≡ Some v) where
   answered : (not (is_empty s) && all (is_digit_of base) s ≡ true) × (ltb (value_from base 0 s) bound ≡ true) × (v ≡ value_from base 0 s)
   unfolding numeral
   answered = accepted (not (is_empty s) && all (is_digit_of base) s) (ltb (value_from base 0 s) bound) (value_from base 0 s) v e
@@ -285,24 +198,17 @@ module _ (base bound v : ℕ) (s : List ℕ) (e : numeral base bound s ≡ Value
   numeral_below = rw answered.2 (ltb-true _ _ answered.1)
 
 -- a text of one or more digits says their value, where that is below the bound
-pub numeral_is : (base bound : ℕ) (s : List ℕ) → (length s ≡ 0 → ⊥) → all (is_digit_of base) s ≡ true → value_from base 0 s < bound → numeral base bound s ≡ Value (value_from base 0 s)
+pub numeral_is : (base bound : ℕ) (s : List ℕ) → (length s ≡ 0 → ⊥) → all (is_digit_of base) s ≡ true → value_from base 0 s < bound → numeral base bound s ≡ Some (value_from base 0 s)
 unfolding numeral
 numeral_is base bound [] n h k = absurd (n refl)
 numeral_is base bound (x ∷ l) n h k = simp (h, lt-ltb _ _ k)
 
-pub hexadecimal_below : (bound v : ℕ) (s : List ℕ) → hexadecimal bound s ≡ Value v → v < bound
+pub hexadecimal_below : (bound v : ℕ) (s : List ℕ) → hexadecimal bound s ≡ Some v → v < bound
 unfolding hexadecimal
 hexadecimal_below bound v s e = numeral_below 16 bound v (without_plus (unprefixed s)) e
 
-pub decimal_below : (bound v : ℕ) (s : List ℕ) → decimal bound s ≡ Value v → v < bound
+pub decimal_below : (bound v : ℕ) (s : List ℕ) → decimal bound s ≡ Some v → v < bound
 decimal_below bound v s e = numeral_below 10 bound v s e
-
--- the same of the answer r of a call
-pub told_below : (base bound v : ℕ) (s : List ℕ) (r : Numeral) → r ≡ numeral base bound s → r ≡ Value v → v < bound
-told_below base bound v s r e t = numeral_below base bound v s (sym e ∙ t)
-
-pub told_hexadecimal_below : (bound v : ℕ) (s : List ℕ) (r : Numeral) → r ≡ hexadecimal bound s → r ≡ Value v → v < bound
-told_hexadecimal_below bound v s r e t = hexadecimal_below bound v s (sym e ∙ t)
 
 -- `0x` in front changes nothing
 pub hexadecimal_prefixed : (bound : ℕ) (s : List ℕ) → hexadecimal bound (48 ∷ 120 ∷ s) ≡ hexadecimal bound s

@@ -1,9 +1,7 @@
 -- Numbers read from digits: "The Rust documentation of `from_str_radix` decides what these do."
-use Rattle.std.specs.Prelude.{ℕ, ◌+◌, ◌-◌, ◌*◌, List, [], ◌∷◌, Bool, not, ◌&&◌, cond, eqb, ltb, drop, get_or}
+use Rattle.std.specs.Prelude.{ℕ, ◌+◌, ◌-◌, ◌*◌, List, [], ◌∷◌, Bool, not, ◌&&◌, cond, eqb, ltb, drop, get_or, Option, Some, None}
 use Rattle.text.specs.Bytes.{within, is_digit}
 use Rattle.text.specs.Scan.{all, is_empty}
-use Rattle.text_read.specs.declared.Numeral.{Numeral}
-use Rattle.text_read.specs.declared.Numeral.TheVariants.{Value, Nothing}
 
 -- the value of a digit of either case; 16 is no digit's
 unfoldable pub digit_value : ℕ → ℕ
@@ -23,11 +21,11 @@ value_from base v [] = v
 value_from base v (x ∷ xs) = value_from base (v * base + digit_value x) xs
 
 -- one or more digits to the base, any count of leading zeros, whose value is below the bound
-unfoldable pub numeral : ℕ → ℕ → List ℕ → Numeral
+unfoldable pub numeral : ℕ → ℕ → List ℕ → Option ℕ
 numeral base bound s =
     cond (not (is_empty s) && all (is_digit_of base) s && ltb (value_from base 0 s) bound)
-    (Value (value_from base 0 s))
-    Nothing
+    (Some (value_from base 0 s))
+    None
 
 -- "repeated `0x` is dropped"
 unfoldable pub unprefixed : List ℕ → List ℕ
@@ -40,9 +38,9 @@ abbrev pub without_plus : List ℕ → List ℕ
 without_plus l = cond (eqb (get_or l 0 0) 43) (drop 1 l) l
 
 -- a hexadecimal number below the bound: "A first word may lack `0x`, and repeated `0x` is dropped"
-unfoldable pub hexadecimal : ℕ → List ℕ → Numeral
+unfoldable pub hexadecimal : ℕ → List ℕ → Option ℕ
 hexadecimal bound s = numeral 16 bound (without_plus (unprefixed s))
 
 -- decimal digits below the bound, without a sign
-abbrev pub decimal : ℕ → List ℕ → Numeral
+abbrev pub decimal : ℕ → List ℕ → Option ℕ
 decimal bound s = numeral 10 bound s

@@ -2,136 +2,71 @@
 // Every public function takes a part of a text, requires nothing of it, and takes the largest number that is accepted.
 #![tactic(auto)]
 
-ghost use Rattle.std.specs.Prelude.{◌≡◌, ◌+◌, ◌≤◌, length, drop};
+ghost use Rattle.std.specs.Prelude.{◌≡◌, ◌+◌, ◌≤◌};
 ghost use Rattle.text_read.specs.Numerals.{digit_value, unprefixed, numeral, hexadecimal, decimal};
 
-// What a text says: a number, or none.
-#[derive(Clone, Copy)]
-pub enum Numeral {
-    Value(u64),
-    Nothing,
-}
-
 // The value of a digit of either case, or 16.
+#[tactic(auto, unfolding(crate::specs::Numerals::digit_value, text::specs::Bytes::is_digit))]
 fn digit_value(b: u8) -> u64
     ensures { result ≡ digit_value b }
 {
-    if b < b'0' {
-        return 16;
+    match b {
+        b'0'..=b'9' => u64::from(b - b'0'),
+        b'A'..=b'F' => u64::from(b - b'A') + 10,
+        b'a'..=b'f' => u64::from(b - b'a') + 10,
+        _ => 16,
     }
-    if b <= b'9' {
-        return (b - b'0') as u64;
-    }
-    if b < b'A' {
-        return 16;
-    }
-    if b <= b'F' {
-        return (b - b'A' + 10) as u64;
-    }
-    if b < b'a' {
-        return 16;
-    }
-    if b <= b'f' {
-        return (b - b'a' + 10) as u64;
-    }
-    16
 }
 
 // One or more digits to the base, any count of leading zeros, at most `most`.
-fn read_digits(digits: &[u8], base: u64, most: u64) -> Numeral
+#[tactic(auto, using(crate::proofs::Laws::read_laws))]
+fn read_digits(digits: &[u8], base: u64, most: u64) -> Option<u64>
     requires { (2 ≤ base) × (base ≤ 16) }
     ensures { result ≡ numeral base (most + 1) digits.now }
 {
-    if digits.len() == 0 {
-        return Numeral::Nothing;
+    if digits.is_empty() {
+        return None;
     }
     let mut value: u64 = 0;
-    let mut i: usize = 0;
-    while i < digits.len() {
-        let d = digit_value(digits[i]);
-        if base <= d {
-            return Numeral::Nothing;
+    for &b in digits {
+        let digit = digit_value(b);
+        if base <= digit {
+            return None;
         }
-        if most < d {
-            return Numeral::Nothing;
-        }
-        if (most - d) / base < value {
-            return Numeral::Nothing;
-        }
-        value = value * base + d;
-        i += 1;
+        value = value.checked_mul(base)?.checked_add(digit)?;
     }
-    Numeral::Value(value)
+    (value <= most).then_some(value)
 }
 
-// Sixteen hexadecimal digits, at most `most`: none of them passes 64 bits.
-fn read_sixteen(digits: &[u8], most: u64) -> Numeral
-    requires { length digits.now ≡ 16 }
-    ensures { result ≡ numeral 16 (most + 1) digits.now }
+// What follows `0x`, once or repeated or not at all.
+#[tactic(auto, using(crate::proofs::Laws::prefix_laws))]
+fn without_prefix(text: &[u8]) -> &[u8]
+    ensures { result.now ≡ unprefixed text.now }
 {
-    let mut value: u64 = 0;
-    let mut i: usize = 0;
-    while i < 16 {
-        let d = digit_value(digits[i]);
-        if 16 <= d {
-            return Numeral::Nothing;
-        }
-        value = value * 16 + d;
-        i += 1;
+    let mut rest = text;
+    while let [b'0', b'x', next @ ..] = rest {
+        rest = next;
     }
-    if most < value {
-        return Numeral::Nothing;
-    }
-    Numeral::Value(value)
-}
-
-// How many bytes `0x`, once or repeated, take at the start.
-fn prefix_length(text: &[u8]) -> usize
-    ensures { (result ≤ length text.now) × (drop result text.now ≡ unprefixed text.now) }
-{
-    let mut i: usize = 0;
-    while 2 <= text.len() - i {
-        if text[i] != b'0' {
-            return i;
-        }
-        if text[i + 1] != b'x' {
-            return i;
-        }
-        i += 2;
-    }
-    i
+    rest
 }
 
 // Hexadecimal digits of either case, one or more, any count of leading zeros, at most `most`: no `0x`, no sign.
-pub fn read_hex_digits(digits: &[u8], most: u64) -> Numeral
+pub fn read_hex_digits(digits: &[u8], most: u64) -> Option<u64>
     ensures { result ≡ numeral 16 (most + 1) digits.now }
 {
-    if digits.len() == 16 {
-        return read_sixteen(digits, most);
-    }
     read_digits(digits, 16, most)
 }
 
 // Hexadecimal digits of either case after any `0x`, repeated or none, and an optional `+`; at most `most`.
-pub fn read_hexadecimal(text: &[u8], most: u64) -> Numeral
+pub fn read_hexadecimal(text: &[u8], most: u64) -> Option<u64>
     ensures { result ≡ hexadecimal (most + 1) text.now }
 {
-    let n = prefix_length(text);
-    let rest = &text[n..];
-    if rest.len() == 0 {
-        return Numeral::Nothing;
-    }
-    if rest[0] == b'+' {
-        return read_digits(&rest[1..], 16, most);
-    }
-    if rest.len() == 16 {
-        return read_sixteen(rest, most);
-    }
-    read_digits(rest, 16, most)
+    let rest = without_prefix(text);
+    read_hex_digits(rest.strip_prefix(b"+").unwrap_or(rest), most)
 }
 
 // Decimal digits, one or more, any count of leading zeros, at most `most`.
-pub fn read_decimal(text: &[u8], most: u64) -> Numeral
+pub fn read_decimal(text: &[u8], most: u64) -> Option<u64>
     ensures { result ≡ decimal (most + 1) text.now }
 {
     read_digits(text, 10, most)

@@ -1,14 +1,12 @@
 -- Cases of document 01 and of its boundaries, computed: numbers as text, and texts put into lent text.
+use Rattle.std.specs.Prelude.{Option, Some, None}
 use Prim.Native.Nat.{ℕ, suc, ◌+◌, ◌^◌}
 use Prim.Native.String.{String}
 use mathlib.Core.Path.{◌≡◌, refl}
 use mathlib.Core.List.{List, [], ◌∷◌}
 use mathlib.Core.Bool.{Bool, true, false, cond, ◌&&◌}
-use mathlib.Core.Option.{Option, none, some}
 use lib.Dec.{eqb}
 use Rattle.text.specs.Bytes.{bytes, same}
-use Rattle.text_write.specs.declared.Put.{Put}
-use Rattle.text_write.specs.declared.Put.TheVariants.{Count, Short}
 use Rattle.text_write.specs.Digits.{digits_of, digit_count, fewest_text, sixteen_text, decimal_text}
 use Rattle.text_write.specs.Put.{put_into, put_count}
 
@@ -22,13 +20,13 @@ data Case : Type 0 where
   -- the same, refused: the text is as it was
   refuses : String → ℕ → String → Case
 
-counts : ℕ → Put → Bool
-counts n (Count m) = eqb n m
-counts n Short = false
+counts : ℕ → Option ℕ → Bool
+counts n (Some m) = eqb n m
+counts n None = false
 
-is_short : Put → Bool
-is_short (Count m) = false
-is_short Short = true
+is_short : Option ℕ → Bool
+is_short (Some m) = false
+is_short None = true
 
 right : Case → Bool
 unfolding same digits_of digit_count put_into put_count
@@ -78,9 +76,9 @@ cases =
     ∷ []
 
 first_wrong : ℕ → List Case → Option ℕ
-first_wrong k [] = none
-first_wrong k (c ∷ cs) = cond (right c) (first_wrong (suc k) cs) (some k)
+first_wrong k [] = None
+first_wrong k (c ∷ cs) = cond (right c) (first_wrong (suc k) cs) (Some k)
 
-all_right : first_wrong 0 cases ≡ none
+all_right : first_wrong 0 cases ≡ None
 unfolding first_wrong cases right counts is_short
 all_right = refl

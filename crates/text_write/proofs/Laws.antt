@@ -1,4 +1,5 @@
 -- Laws of bytes put into lent text and of the digits of a number, for whoever calls a writer.
+use Rattle.std.specs.Prelude.{Option, Some, None}
 use Prim.Native.Nat.{ℕ, zero, suc, ◌+◌, ◌/◌, ◌%◌, ◌*◌, ◌^◌, ◌<◌, ◌≤◌}
 use mathlib.Core.Path.{◌≡◌, refl, sym, ap, ◌∙◌, subst}
 use mathlib.Core.List.{List, [], ◌∷◌, ◌++◌}
@@ -9,23 +10,16 @@ use lib.Dec.{ltb, leb}
 use mir.Val.{Fits}
 use mir.Syntax.{w64}
 use lib.ListN.{length, take, drop, set, length-append}
-use lib.Seq.{sets, sets-eq, set_comm, length-sets, take_at, drop_at, length-take-le}
+use lib.Seq.{sets, sets-eq, length-sets, take_at, drop_at, length-take-le}
 use borrow.Author.Tests.{le-leb, lt-leb, leb-true, leb-false, lt-ltb, le-ltb, ltb-true}
-use Rattle.text_write.specs.declared.Put.{Put}
-use Rattle.text_write.specs.declared.Put.TheVariants.{Count, Short}
 use Rattle.text_write.specs.Digits.{digit_byte, digits_of, digit_count, prefixed_text, fewest_text, sixteen_text, decimal_text}
 use Rattle.text_write.specs.Put.{put_into, put_count}
 
--- ---- a run of stores: one list after another, and a store behind the run that comes before it
+-- ---- a run of stores: one list after another
 pub sets_append : (a b d : List ℕ) (at : ℕ) → sets d at (a ++ b) ≡ sets (sets d at a) (at + length a) b
 sets_append [] b d at = ap (λ (k : ℕ). sets d k b) (sym (add-zero at))
 sets_append (x ∷ a) b d at =
     sets_append a b (set d at x) (suc at) ∙ ap (λ (k : ℕ). sets (sets (set d at x) (suc at) a) k b) (omega arith)
-
-pub set_sets : (w d : List ℕ) (at j x : ℕ) → at + length w ≤ j → sets (set d j x) at w ≡ set (sets d at w) j x
-set_sets [] d at j x h = refl
-set_sets (a ∷ w) d at j x h =
-    ap (λ (e : List ℕ). sets e (suc at) w) (set_comm d j at x a (λ q. omega arith)) ∙ set_sets w (set d at a) (suc at) j x (omega arith)
 
 -- ---- a put that fits, and one that does not
 module _ (d : List ℕ) (at : ℕ) (w : List ℕ) where
@@ -33,7 +27,7 @@ module _ (d : List ℕ) (at : ℕ) (w : List ℕ) where
   unfolding put_into
   put_fits h = simp (le-leb _ _ h) (sym (sets-eq w d at h))
 
-  pub count_fits : at + length w ≤ length d → put_count d at w ≡ Count (length w)
+  pub count_fits : at + length w ≤ length d → put_count d at w ≡ Some (length w)
   unfolding put_count
   count_fits h = simp (le-leb _ _ h)
 
@@ -41,7 +35,7 @@ module _ (d : List ℕ) (at : ℕ) (w : List ℕ) where
   unfolding put_into
   put_over h = simp (lt-leb _ _ h)
 
-  pub count_over : length d < at + length w → put_count d at w ≡ Short
+  pub count_over : length d < at + length w → put_count d at w ≡ None
   unfolding put_count
   count_over h = simp (lt-leb _ _ h)
 
@@ -68,41 +62,41 @@ module _ (d : List ℕ) (at : ℕ) (w : List ℕ) where
     put_row b e = ap (take (at + length w)) e ∙ take_put
 
   -- ---- what an answer tells
-  module _ (r : Put) (e : r ≡ put_count d at w) where
-    pub count_told : (n : ℕ) → r ≡ Count n → n ≡ length w
+  module _ (r : Option ℕ) (e : r ≡ put_count d at w) where
+    pub count_told : (n : ℕ) → r ≡ Some n → n ≡ length w
     unfolding put_count
     count_told n f = go (leb (at + length w) (length d)) (sym e ∙ f)
       where
-        go : (t : Bool) → cond t (Count (length w)) Short ≡ Count n → n ≡ length w
+        go : (t : Bool) → cond t (Some (length w)) None ≡ Some n → n ≡ length w
         go true p = cc
         go false p = let z : ◌≡◌ {A = ℕ} 0 1 = cc in omega arith
 
-    pub fits_told : (n : ℕ) → r ≡ Count n → at + length w ≤ length d
+    pub fits_told : (n : ℕ) → r ≡ Some n → at + length w ≤ length d
     unfolding put_count
     fits_told n f = go (leb (at + length w) (length d)) refl (sym e ∙ f)
       where
-        go : (t : Bool) → leb (at + length w) (length d) ≡ t → cond t (Count (length w)) Short ≡ Count n → at + length w ≤ length d
+        go : (t : Bool) → leb (at + length w) (length d) ≡ t → cond t (Some (length w)) None ≡ Some n → at + length w ≤ length d
         go true q p = leb-true _ _ q
         go false q p = let z : ◌≡◌ {A = ℕ} 0 1 = cc in omega arith
 
-    pub over_told : r ≡ Short → length d < at + length w
+    pub over_told : r ≡ None → length d < at + length w
     unfolding put_count
     over_told f = go (leb (at + length w) (length d)) refl (sym e ∙ f)
       where
-        go : (t : Bool) → leb (at + length w) (length d) ≡ t → cond t (Count (length w)) Short ≡ Short → length d < at + length w
+        go : (t : Bool) → leb (at + length w) (length d) ≡ t → cond t (Some (length w)) None ≡ None → length d < at + length w
         go true q p = let z : ◌≡◌ {A = ℕ} 0 1 = cc in omega arith
         go false q p = leb-false _ _ q
 
-    pub never_short : at + length w ≤ length d → r ≡ Short → ⊥
+    pub never_short : at + length w ≤ length d → r ≡ None → ⊥
     never_short h f = let o = over_told f in omega arith
 
-    pub told_within : (n : ℕ) → r ≡ Count n → at + n ≤ length d
+    pub told_within : (n : ℕ) → r ≡ Some n → at + n ≤ length d
     told_within n f = let c = count_told n f in let k = fits_told n f in omega arith
 
-    pub told_adds : (n : ℕ) → r ≡ Count n → length d * 1 < 2 ^ 63 → Fits w64 (at + n)
+    pub told_adds : (n : ℕ) → r ≡ Some n → length d * 1 < 2 ^ 63 → Fits w64 (at + n)
     told_adds n f l = let k = told_within n f in omega arith
 
-    pub told_row : (n : ℕ) (b : List ℕ) → r ≡ Count n → b ≡ put_into d at w → take (at + n) b ≡ take at d ++ w
+    pub told_row : (n : ℕ) (b : List ℕ) → r ≡ Some n → b ≡ put_into d at w → take (at + n) b ≡ take at d ++ w
     told_row n b f g = ap (λ (k : ℕ). take (at + k) b) (count_told n f) ∙ put_row (fits_told n f) b g
 
 pub ruleset told_laws = (count_told, fits_told, over_told, never_short, told_within, told_adds, told_row, put_row)
@@ -117,8 +111,8 @@ put_put d at v w h =
     ∙ sym (put_fits d at (v ++ w) (omega arith) ∙ sets_append v w d at)
 
 -- the second of two writers that both wrote leaves both texts
-module _ (d b : List ℕ) (at n : ℕ) (v w : List ℕ) (p q : Put) (e : p ≡ put_count d at v) (f : p ≡ Count n) (g : b ≡ put_into d at v) (k : q ≡ put_count b (at + n) w) where
-  pub told_put : (m : ℕ) (z : List ℕ) → q ≡ Count m → z ≡ put_into b (at + n) w → z ≡ put_into d at (v ++ w)
+module _ (d b : List ℕ) (at n : ℕ) (v w : List ℕ) (p q : Option ℕ) (e : p ≡ put_count d at v) (f : p ≡ Some n) (g : b ≡ put_into d at v) (k : q ≡ put_count b (at + n) w) where
+  pub told_put : (m : ℕ) (z : List ℕ) → q ≡ Some m → z ≡ put_into b (at + n) w → z ≡ put_into d at (v ++ w)
   told_put m z l r =
       let c : n ≡ length v = count_told d at v p e n f in
       let s = length_put d at v in
@@ -129,7 +123,7 @@ module _ (d b : List ℕ) (at n : ℕ) (v w : List ℕ) (p q : Put) (e : p ≡ p
       ∙ ap (λ (j : ℕ). put_into (put_into d at v) (at + j) w) c
       ∙ put_put d at v w (omega arith)
 
-pub told_adds_behind : (d b : List ℕ) (at k n : ℕ) (v w : List ℕ) (r : Put) → b ≡ put_into d at v → r ≡ put_count b k w → r ≡ Count n → length d * 1 < 2 ^ 63 → Fits w64 (k + n)
+pub told_adds_behind : (d b : List ℕ) (at k n : ℕ) (v w : List ℕ) (r : Option ℕ) → b ≡ put_into d at v → r ≡ put_count b k w → r ≡ Some n → length d * 1 < 2 ^ 63 → Fits w64 (k + n)
 told_adds_behind d b at k n v w r g e f l =
     let h = told_within b k w r e n f in
     let x = ap length g in
@@ -231,7 +225,7 @@ decimal_most v h = let c = digit_count_fewest 10 63 19 v (omega arith) (omega ar
 
 -- to put the same bytes is the same put
 module _ (d : List ℕ) (at : ℕ) (v w : List ℕ) (e : v ≡ w) where
-  pub same_count : (q : Put) → q ≡ put_count d at v → q ≡ put_count d at w
+  pub same_count : (q : Option ℕ) → q ≡ put_count d at v → q ≡ put_count d at w
   same_count q h = h ∙ ap (put_count d at) e
 
   pub same_into : (b : List ℕ) → b ≡ put_into d at v → b ≡ put_into d at w

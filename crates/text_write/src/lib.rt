@@ -5,27 +5,15 @@
 ghost use Rattle.std.specs.Prelude.{◌≡◌};
 ghost use Rattle.text_write.specs.Put.{put_count, put_into};
 
-// How many bytes were written, or that the text is too short.
-#[derive(Clone, Copy)]
-pub enum Put {
-    Count(usize),
-    Short,
-}
-
 // Writes the bytes of source.
-pub fn put_bytes(text: &mut [u8], at: usize, source: &[u8]) -> Put
+#[tactic(auto, unfolding(crate::specs::Put::put_into, crate::specs::Put::put_count))]
+pub fn put_bytes(text: &mut [u8], at: usize, source: &[u8]) -> Option<usize>
     ensures { (result ≡ put_count text.old at source.now) × (text.new ≡ put_into text.old at source.now) }
 {
-    if text.len() < source.len() {
-        return Put::Short;
+    let end = at.checked_add(source.len())?;
+    if text.len() < end {
+        return None;
     }
-    if text.len() - source.len() < at {
-        return Put::Short;
-    }
-    let mut i = 0;
-    while i < source.len() {
-        text[at + i] = source[i];
-        i += 1;
-    }
-    Put::Count(i)
+    text[at..end].copy_from_slice(source);
+    Some(source.len())
 }

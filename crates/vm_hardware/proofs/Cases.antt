@@ -1,4 +1,5 @@
 -- Registers in first words, and spellings, from the papers, against the definitions.
+use Rattle.std.specs.Prelude.{Option, Some, None}
 use mathlib.Core.Path.{◌≡◌, refl}
 use mathlib.Core.List.{List, [], ◌∷◌, map}
 use Prim.Native.Nat.{ℕ, ◌^◌}
@@ -10,10 +11,6 @@ use Rattle.vm_hardware.specs.declared.OlaSpecialRegister.{OlaSpecialRegister}
 use Rattle.vm_hardware.specs.declared.OlaSpecialRegister.TheVariants.{PC, PSP}
 use Rattle.vm_hardware.specs.declared.Place.{Place}
 use Rattle.vm_hardware.specs.declared.Place.TheVariants.{Op0, Op1, Dst}
-use Rattle.vm_hardware.specs.declared.RegisterFound.{RegisterFound}
-use Rattle.vm_hardware.specs.declared.RegisterFound.TheVariants.{Is as IsRegister, Nothing as NoRegister}
-use Rattle.vm_hardware.specs.declared.SpecialFound.{SpecialFound}
-use Rattle.vm_hardware.specs.declared.SpecialFound.TheVariants.{Is as IsSpecial, Nothing as NoSpecial}
 
 -- a place and a register, and the register's bit there: the Rust's shifts of R0 and R9
 abbrev bits : List ((Place × OlaRegister) × ℕ)
@@ -21,54 +18,54 @@ bits = ((Op0, R0), 52) ∷ ((Op0, R9), 61) ∷ ((Op1, R0), 42) ∷ ((Op1, R9), 5
 
 -- a place and a first word, and the register found: two registers in one place, one in each of two places, none, and the bits at and beside
 -- the ends of a place
-abbrev words : List ((Place × ℕ) × RegisterFound)
+abbrev words : List ((Place × ℕ) × Option OlaRegister)
 words =
-    ((Dst, 0x0000000600800000), IsRegister R1)
-    ∷ ((Op0, 0x4040000200400000), IsRegister R2)
-    ∷ ((Op1, 0x4040000200400000), NoRegister)
-    ∷ ((Dst, 0x4040000200400000), IsRegister R1)
-    ∷ ((Op1, 0x0040200200400000), IsRegister R3)
-    ∷ ((Dst, 0x0040200200400000), IsRegister R1)
-    ∷ ((Op0, 0), NoRegister)
-    ∷ ((Op1, 0), NoRegister)
-    ∷ ((Dst, 0), NoRegister)
-    ∷ ((Op0, 2 ^ 61), IsRegister R9)
-    ∷ ((Op0, 2 ^ 62), NoRegister)
-    ∷ ((Op0, 2 ^ 52), IsRegister R0)
-    ∷ ((Op1, 2 ^ 52), NoRegister)
-    ∷ ((Op1, 2 ^ 51), IsRegister R9)
-    ∷ ((Op0, 2 ^ 51), NoRegister)
-    ∷ ((Op1, 2 ^ 42), IsRegister R0)
-    ∷ ((Dst, 2 ^ 42), NoRegister)
-    ∷ ((Dst, 2 ^ 41), IsRegister R9)
-    ∷ ((Dst, 2 ^ 32), IsRegister R0)
-    ∷ ((Dst, 2 ^ 31), NoRegister)
+    ((Dst, 0x0000000600800000), Some R1)
+    ∷ ((Op0, 0x4040000200400000), Some R2)
+    ∷ ((Op1, 0x4040000200400000), None)
+    ∷ ((Dst, 0x4040000200400000), Some R1)
+    ∷ ((Op1, 0x0040200200400000), Some R3)
+    ∷ ((Dst, 0x0040200200400000), Some R1)
+    ∷ ((Op0, 0), None)
+    ∷ ((Op1, 0), None)
+    ∷ ((Dst, 0), None)
+    ∷ ((Op0, 2 ^ 61), Some R9)
+    ∷ ((Op0, 2 ^ 62), None)
+    ∷ ((Op0, 2 ^ 52), Some R0)
+    ∷ ((Op1, 2 ^ 52), None)
+    ∷ ((Op1, 2 ^ 51), Some R9)
+    ∷ ((Op0, 2 ^ 51), None)
+    ∷ ((Op1, 2 ^ 42), Some R0)
+    ∷ ((Dst, 2 ^ 42), None)
+    ∷ ((Dst, 2 ^ 41), Some R9)
+    ∷ ((Dst, 2 ^ 32), Some R0)
+    ∷ ((Dst, 2 ^ 31), None)
     ∷ []
 
 -- a piece, and the register that it names: one digit after `r`, no other letter, byte or length
-abbrev names : List (List ℕ × RegisterFound)
+abbrev names : List (List ℕ × Option OlaRegister)
 names =
-    (bytes "r0", IsRegister R0)
-    ∷ (bytes "r9", IsRegister R9)
-    ∷ (bytes "r10", NoRegister)
-    ∷ (bytes "R1", NoRegister)
-    ∷ (bytes "r", NoRegister)
-    ∷ (bytes "ra", NoRegister)
-    ∷ (bytes "r/", NoRegister)
-    ∷ (bytes "r:", NoRegister)
-    ∷ (bytes "1r", NoRegister)
-    ∷ (bytes "", NoRegister)
+    (bytes "r0", Some R0)
+    ∷ (bytes "r9", Some R9)
+    ∷ (bytes "r10", None)
+    ∷ (bytes "R1", None)
+    ∷ (bytes "r", None)
+    ∷ (bytes "ra", None)
+    ∷ (bytes "r/", None)
+    ∷ (bytes "r:", None)
+    ∷ (bytes "1r", None)
+    ∷ (bytes "", None)
     ∷ []
 
-abbrev specials : List (List ℕ × SpecialFound)
+abbrev specials : List (List ℕ × Option OlaSpecialRegister)
 specials =
-    (bytes "pc", IsSpecial PC)
-    ∷ (bytes "psp", IsSpecial PSP)
-    ∷ (bytes "PC", NoSpecial)
-    ∷ (bytes "sp", NoSpecial)
-    ∷ (bytes "pspp", NoSpecial)
-    ∷ (bytes "p", NoSpecial)
-    ∷ (bytes "", NoSpecial)
+    (bytes "pc", Some PC)
+    ∷ (bytes "psp", Some PSP)
+    ∷ (bytes "PC", None)
+    ∷ (bytes "sp", None)
+    ∷ (bytes "pspp", None)
+    ∷ (bytes "p", None)
+    ∷ (bytes "", None)
     ∷ []
 
 abbrev spellings : List (OlaRegister × List ℕ)

@@ -1,13 +1,14 @@
 -- Facts about the registers: their order, the tables by that order, their bits in the three places, the search for the lowest bit, and their spellings.
+use Rattle.std.specs.Prelude.{Option, Some, None}
 use mathlib.Core.Path.{◌≡◌, refl, sym, ap, ◌∙◌}
 use mathlib.Core.Bool.{Bool, true, false, cond}
 use mathlib.Core.List.{List, [], ◌∷◌, map}
 use mathlib.Core.Logic.{inl, inr}
 use Prim.Native.Nat.{ℕ, ◌+◌, ◌-◌, ◌*◌, ◌/◌, ◌%◌, ◌^◌, ◌<◌, ◌≤◌}
-use native.Mathlib.Nat.{pow-le-pow_right, mod-eq_of_lt, mod-lt, one-mul, mul-one, mul-zero, add-zero, mul-le-mul_left, eq-zero-or-pos}
+use native.Mathlib.Nat.{mod-lt, mul-one, mul-zero, add-zero, eq-zero-or-pos}
 use native.Mathlib.Numerals.{add-one}
 use native.Mathlib.Omega.{arith}
-use borrow.Author.Tests.{ltb-true, eq-eqb, ne_eqb}
+use borrow.Author.Tests.{ltb-true, lt-ltb, le-ltb}
 use lib.Dec.{eqb, ltb, lit<, lit≤}
 use lib.ListN.{length, get_or, drop, drop_of_length-le}
 use lib.Seq.{drop-cons}
@@ -22,9 +23,6 @@ use Rattle.vm_hardware.specs.declared.OlaSpecialRegister.{OlaSpecialRegister}
 use Rattle.vm_hardware.specs.declared.OlaSpecialRegister.TheVariants.{PC, PSP}
 use Rattle.vm_hardware.specs.declared.Place.{Place}
 use Rattle.vm_hardware.specs.declared.Place.TheVariants.{Op0, Op1, Dst}
-use Rattle.vm_hardware.specs.declared.RegisterFound.{RegisterFound}
-use Rattle.vm_hardware.specs.declared.RegisterFound.TheVariants.{Is as IsRegister, Nothing as NoRegister}
-use Rattle.vm_hardware.specs.declared.SpecialFound.TheVariants.{Is as IsSpecial}
 use Rattle.vm_hardware.specs.contracts.OlaRegister.{enum}
 
 -- a register's index is below ten: one computed test over the registers, as in the next law
@@ -39,10 +37,6 @@ register_at_index = each enum tt (λ r. get_or registers (register_index r) R0) 
 -- two registers with one index are one register
 pub index_one : (a b : OlaRegister) → register_index a ≡ register_index b → a ≡ b
 index_one a b e = sym (register_at_index a) ∙ ap register_at e ∙ register_at_index b
-
--- an index that was answered for a register is below ten
-pub indexed_lt : (i : ℕ) (r : OlaRegister) → i ≡ register_index r → i < 10
-indexed_lt i r e = omega (arith, index_lt r)
 
 -- the places by their index
 abbrev pub places : List Place
@@ -90,23 +84,13 @@ place_most Dst = lit≤ tt
 pub shift_lt : (p : Place) (r : OlaRegister) (k : ℕ) → k ≡ register_bit p r → k < 64
 shift_lt p r k e = omega (arith, index_lt r, place_most p)
 
--- the word with a register's bit alone fits 64 bits
-pub mask_lt : (p : Place) (r : OlaRegister) → 2 ^ register_bit p r < 2 ^ 64
-mask_lt p r =
-    let m : register_bit p r ≤ 61 = omega (arith, index_lt r, place_most p) in
-    let h : 2 ^ register_bit p r ≤ 2 ^ 61 = pow-le-pow_right (lit< tt) m in
-    omega arith
-
-pub mask_is : (p : Place) (r : OlaRegister) (k : ℕ) → k ≡ register_bit p r → (1 * 2 ^ k) % 2 ^ 64 ≡ 2 ^ register_bit p r
-mask_is p r k e = rw (e, one-mul) (mod-eq_of_lt (mask_lt p r))
-
 registers_long : length registers ≡ 10
 unfolding registers
 registers_long = refl
 
 -- the search for the first register that passes a test, at place i of a list
-module _ (f : OlaRegister → Bool) (x : RegisterFound) (l : List OlaRegister) (i : ℕ) (e : x ≡ first_register f (drop i l)) where
-  pub first_passes : i < length l → f (get_or l i R0) ≡ true → IsRegister (get_or l i R0) ≡ x
+module _ (f : OlaRegister → Bool) (x : Option OlaRegister) (l : List OlaRegister) (i : ℕ) (e : x ≡ first_register f (drop i l)) where
+  pub first_passes : i < length l → f (get_or l i R0) ≡ true → Some (get_or l i R0) ≡ x
   unfolding first_register
   first_passes h b = sym (e ∙ rw (drop-cons l i R0 h, b))
 
@@ -114,26 +98,16 @@ module _ (f : OlaRegister → Bool) (x : RegisterFound) (l : List OlaRegister) (
   unfolding first_register
   first_fails h b = e ∙ rw (add-one, drop-cons l i R0 h, b)
 
-  pub first_none : length l ≤ i → NoRegister ≡ x
+  pub first_none : length l ≤ i → None ≡ x
   unfolding first_register
   first_none h = sym (e ∙ rw (drop_of_length-le l h))
 
 -- the search in which all are looked at: while k is 1 none before place i passed, once it is 0 the first that passed stands at n
-abbrev pub searched : (OlaRegister → Bool) → ℕ → ℕ → ℕ → RegisterFound
-searched f k n i = cond (eqb k 1) (first_register f (drop i registers)) (IsRegister (get_or registers n R0))
-
--- a number times the lowest bit of another is at most the number
-pub times_bit : (k v : ℕ) → k * (v % 2) ≤ k
-times_bit k v =
-    let h : v % 2 < 2 = mod-lt v (lit< tt) in
-    let l : k * (v % 2) ≤ k * 1 = mul-le-mul_left k (omega arith) in
-    omega (arith, l, mul-one k)
-
-pub times_bit_lt : (k v : ℕ) → k ≤ 1 → k * (v % 2) < 2 ^ 64
-times_bit_lt k v h = omega (arith, times_bit k v)
+abbrev pub searched : (OlaRegister → Bool) → ℕ → ℕ → ℕ → Option OlaRegister
+searched f k n i = cond (eqb k 1) (first_register f (drop i registers)) (Some (get_or registers n R0))
 
 -- the turn at place i, where b says whether the register there passes: k stays 1 only where it does not, and n counts on while k is 1
-module _ (f : OlaRegister → Bool) (x : RegisterFound) (k n i : ℕ) (s : x ≡ searched f k n i) (h : i < 10) where
+module _ (f : OlaRegister → Bool) (x : Option OlaRegister) (k n i : ℕ) (s : x ≡ searched f k n i) (h : i < 10) where
   after_found : k ≡ 0 → (c : ℕ) → c ≡ 0 → x ≡ searched f c (n + c) (i + 1)
   after_found e c z = s ∙ rw (e, z, add-zero)
 
@@ -157,60 +131,43 @@ module _ (f : OlaRegister → Bool) (x : RegisterFound) (k n i : ℕ) (s : x ≡
             ]
       ]
 
--- after all ten: none passed, or the one at n is the first that did
-module _ (f : OlaRegister → Bool) (x : RegisterFound) (k n i : ℕ) (s : x ≡ searched f k n i) where
-  pub none_found : k ≡ 1 → 10 ≤ i → NoRegister ≡ x
-  none_found e h = first_none f x registers i (s ∙ rw e) (omega (arith, registers_long))
-
-  pub one_found : (names : List OlaRegister) → names ≡ registers → k ≡ 0 → IsRegister (get_or names n R0) ≡ x
-  one_found names t e = ap (λ (l : List OlaRegister). IsRegister (get_or l n R0)) t ∙ sym (s ∙ rw e)
+-- after all ten: where none passed n is past the last, and else the register at n is the first that did
+pub last_found : (f : OlaRegister → Bool) (x : Option OlaRegister) (k n i : ℕ) → x ≡ searched f k n i → k ≤ 1 → 10 ≤ i → i ≤ 10 → n + 1 ≤ i + k → i + 10 * k ≤ n + 10 → cond (ltb n 10) (Some (get_or registers n R0)) None ≡ x
+last_found f x k n i s l h z a b =
+    elim (eq-zero-or-pos k) [
+      | inl e ↦ rw (lt-ltb n 10 (omega arith)) (sym (s ∙ rw e))
+      | inr y ↦
+          let o : k ≡ 1 = omega arith in
+          rw (le-ltb n 10 (omega arith)) (first_none f x registers i (s ∙ rw o) (omega (arith, registers_long)))
+    ]
 
 -- the table of shifts: a row by the places' order, an entry by the registers'
-module _ (table : List (List ℕ)) (t : table ≡ map (λ q. map (register_bit q) registers) places) (p : Place) (k : ℕ) (e : k ≡ place_index p) where
-  row_of : get_or table k [] ≡ map (register_bit p) registers
-  row_of =
-      at (λ q. map (register_bit q) registers) Op0 [] places table t k (placed_lt k p e)
-      ∙ ap (λ (i : ℕ). map (register_bit (get_or places i Op0)) registers) e
-      ∙ ap (λ (q : Place). map (register_bit q) registers) (place_at_index p)
+pub row_of : (table : List (List ℕ)) → table ≡ map (λ q. map (register_bit q) registers) places → (p : Place) (k : ℕ) → k ≡ place_index p → get_or table k [] ≡ map (register_bit p) registers
+row_of table t p k e =
+    at (λ q. map (register_bit q) registers) Op0 [] places table t k (placed_lt k p e)
+    ∙ ap (λ (i : ℕ). map (register_bit (get_or places i Op0)) registers) e
+    ∙ ap (λ (q : Place). map (register_bit q) registers) (place_at_index p)
 
-  pub shift_at : (i : ℕ) → i < 10 → get_or (get_or table k []) i 0 ≡ register_bit p (get_or registers i R0)
-  shift_at i h = at (register_bit p) R0 0 registers (get_or table k []) row_of i (omega (arith, registers_long))
+-- a place's row of shifts
+module _ (p : Place) (row : List ℕ) (t : row ≡ map (register_bit p) registers) (i : ℕ) (h : i < 10) where
+  shift_at : get_or row i 0 ≡ register_bit p (get_or registers i R0)
+  shift_at = at (register_bit p) R0 0 registers row t i (omega (arith, registers_long))
 
-  pub shift_of : (r : OlaRegister) (i : ℕ) → i ≡ register_index r → get_or (get_or table k []) i 0 ≡ register_bit p r
-  shift_of r i f = shift_at i (indexed_lt i r f) ∙ ap (λ (j : ℕ). register_bit p (get_or registers j R0)) f ∙ ap (register_bit p) (register_at_index r)
+  pub shift_at_lt : get_or row i 0 < 64
+  shift_at_lt = shift_lt p (get_or registers i R0) _ shift_at
 
-  pub shift_at_lt : (i : ℕ) → i < 10 → get_or (get_or table k []) i 0 < 64
-  shift_at_lt i h = shift_lt p (get_or registers i R0) _ (shift_at i h)
-
-  -- the search for the lowest bit of the place, at place i of the tables: the bit of the register there decides
-  module _ (x : RegisterFound) (w c n i : ℕ) (s : x ≡ searched (λ r. bit (register_bit p r) w) c n i) (h : i < 10) (l : c ≤ 1) (m : c ≡ 1 → n ≡ i) where
-    pub looked : (b : ℕ) → b ≡ w / 2 ^ get_or (get_or table k []) i 0 % 2 → x ≡ searched (λ r. bit (register_bit p r) w) (c - c * b) (n + (c - c * b)) (i + 1)
-    looked b q =
-        let d : b < 2 = rw q (mod-lt (w / 2 ^ get_or (get_or table k []) i 0) (lit< tt)) in
-        turned (λ r. bit (register_bit p r) w) x c n i s h b d (ap (λ (j : ℕ). eqb (w / 2 ^ j % 2) 1) (sym (shift_at i h)) ∙ ap (λ (j : ℕ). eqb j 1) (sym q)) l m
-
-  -- the same, told one register at a time
-  module _ (x : RegisterFound) (w i : ℕ) (s : x ≡ first_register (λ r. bit (register_bit p r) w) (drop i registers)) (h : i < 10) where
-    same_bit : w / 2 ^ get_or (get_or table k []) i 0 % 2 ≡ w / 2 ^ register_bit p (get_or registers i R0) % 2
-    same_bit = ap (λ (j : ℕ). w / 2 ^ j % 2) (shift_at i h)
-
-    pub found : (names : List OlaRegister) → names ≡ registers → w / 2 ^ get_or (get_or table k []) i 0 % 2 ≡ 1 → IsRegister (get_or names i R0) ≡ x
-    found names n b =
-        ap (λ (l : List OlaRegister). IsRegister (get_or l i R0)) n
-        ∙ first_passes (λ r. bit (register_bit p r) w) x registers i s (omega (arith, registers_long)) (eq-eqb _ 1 (sym same_bit ∙ b))
-
-    pub passed : (w / 2 ^ get_or (get_or table k []) i 0 % 2 ≡ 1 → ⊥) → x ≡ first_register (λ r. bit (register_bit p r) w) (drop (i + 1) registers)
-    passed b = first_fails (λ r. bit (register_bit p r) w) x registers i s (omega (arith, registers_long)) (ne_eqb _ 1 (λ q. b (same_bit ∙ q)))
-
-pub none_left : (p : Place) (x : RegisterFound) (w i : ℕ) → x ≡ first_register (λ r. bit (register_bit p r) w) (drop i registers) → 10 ≤ i → NoRegister ≡ x
-none_left p x w i s h = first_none (λ r. bit (register_bit p r) w) x registers i s (omega (arith, registers_long))
+  -- the search for the lowest bit of the place, at place i of the row: the bit of the register there decides
+  pub looked : (x : Option OlaRegister) (w c n b : ℕ) → x ≡ searched (λ r. bit (register_bit p r) w) c n i → c ≤ 1 → (c ≡ 1 → n ≡ i) → b ≡ w / 2 ^ get_or row i 0 % 2 → x ≡ searched (λ r. bit (register_bit p r) w) (c - c * b) (n + (c - c * b)) (i + 1)
+  looked x w c n b s l m q =
+      let d : b < 2 = rw q (mod-lt (w / 2 ^ get_or row i 0) (lit< tt)) in
+      turned (λ r. bit (register_bit p r) w) x c n i s h b d (ap (λ (j : ℕ). eqb (w / 2 ^ j % 2) 1) (sym shift_at) ∙ ap (λ (j : ℕ). eqb j 1) (sym q)) l m
 
 -- a spelling is read as what it was written for
-pub register_of_text : (r : OlaRegister) → register_of (register_text r) ≡ IsRegister r
+pub register_of_text : (r : OlaRegister) → register_of (register_text r) ≡ Some r
 unfolding register_of is_digit registers
-register_of_text = each enum tt (λ r. register_of (register_text r)) IsRegister refl
+register_of_text = each enum tt (λ r. register_of (register_text r)) Some refl
 
-pub special_of_text : (s : OlaSpecialRegister) → special_of (special_text s) ≡ IsSpecial s
+pub special_of_text : (s : OlaSpecialRegister) → special_of (special_text s) ≡ Some s
 unfolding special_of same
 special_of_text PC = refl
 special_of_text PSP = refl

@@ -1,5 +1,5 @@
 -- "Operations and registers": the registers, their bits in the three places, and their spellings.
-use Rattle.std.specs.Prelude.{ℕ, ◌+◌, ◌-◌, ◌^◌, List, [], ◌∷◌, Bool, ◌&&◌, cond, eqb, length, get_or}
+use Rattle.std.specs.Prelude.{ℕ, ◌+◌, ◌-◌, ◌^◌, List, [], ◌∷◌, Bool, ◌&&◌, cond, eqb, length, get_or, Option, Some, None}
 use Rattle.text.specs.Bytes.{bytes, is_digit, same}
 use Rattle.vm_opcodes.specs.Operations.{bit}
 use Rattle.vm_hardware.specs.declared.OlaRegister.{OlaRegister}
@@ -8,10 +8,6 @@ use Rattle.vm_hardware.specs.declared.OlaSpecialRegister.{OlaSpecialRegister}
 use Rattle.vm_hardware.specs.declared.OlaSpecialRegister.TheVariants.{PC, PSP}
 use Rattle.vm_hardware.specs.declared.Place.{Place}
 use Rattle.vm_hardware.specs.declared.Place.TheVariants.{Op0, Op1, Dst}
-use Rattle.vm_hardware.specs.declared.RegisterFound.{RegisterFound}
-use Rattle.vm_hardware.specs.declared.RegisterFound.TheVariants.{Is as IsRegister, Nothing as NoRegister}
-use Rattle.vm_hardware.specs.declared.SpecialFound.{SpecialFound}
-use Rattle.vm_hardware.specs.declared.SpecialFound.TheVariants.{Is as IsSpecial, Nothing as NoSpecial}
 
 -- "An instruction has three places, 0 op0, 1 op1 and 2 dst"
 abbrev pub place_index : Place → ℕ
@@ -53,12 +49,12 @@ abbrev pub register_mask : Place → OlaRegister → ℕ
 register_mask place r = 2 ^ register_bit place r
 
 -- the first register in that order that passes a test
-unfoldable pub first_register : (OlaRegister → Bool) → List OlaRegister → RegisterFound
-first_register f [] = NoRegister
-first_register f (r ∷ rs) = cond (f r) (IsRegister r) (first_register f rs)
+unfoldable pub first_register : (OlaRegister → Bool) → List OlaRegister → Option OlaRegister
+first_register f [] = None
+first_register f (r ∷ rs) = cond (f r) (Some r) (first_register f rs)
 
 -- "the lowest set register bit of each place counts"
-abbrev pub register_in : Place → ℕ → RegisterFound
+abbrev pub register_in : Place → ℕ → Option OlaRegister
 register_in place w = first_register (λ r. bit (register_bit place r) w) registers
 
 -- "Registers list as r0 to r9"
@@ -66,11 +62,11 @@ abbrev pub register_text : OlaRegister → List ℕ
 register_text r = 114 ∷ (48 + register_index r) ∷ []
 
 -- `rA`: `r` and one digit
-unfoldable pub register_of : List ℕ → RegisterFound
+unfoldable pub register_of : List ℕ → Option OlaRegister
 register_of s =
     cond (eqb (length s) 2 && eqb (get_or s 0 0) 114 && is_digit (get_or s 1 0))
-    (IsRegister (register_at (get_or s 1 0 - 48)))
-    NoRegister
+    (Some (register_at (get_or s 1 0 - 48)))
+    None
 
 -- "special ones as pc and psp"
 abbrev pub special_text : OlaSpecialRegister → List ℕ
@@ -78,8 +74,8 @@ special_text PC = bytes "pc"
 special_text PSP = bytes "psp"
 
 -- `pc` or `psp`
-unfoldable pub special_of : List ℕ → SpecialFound
+unfoldable pub special_of : List ℕ → Option OlaSpecialRegister
 special_of s =
-    cond (same s (bytes "pc")) (IsSpecial PC)
-    (cond (same s (bytes "psp")) (IsSpecial PSP)
-    NoSpecial)
+    cond (same s (bytes "pc")) (Some PC)
+    (cond (same s (bytes "psp")) (Some PSP)
+    None)

@@ -33,20 +33,6 @@ pub enum Place {
     Dst,
 }
 
-// A register, or none.
-#[derive(Clone, Copy)]
-pub enum RegisterFound {
-    Is(OlaRegister),
-    Nothing,
-}
-
-// A special register, or none.
-#[derive(Clone, Copy)]
-pub enum SpecialFound {
-    Is(OlaSpecialRegister),
-    Nothing,
-}
-
 // The registers by their index.
 pub const REGISTERS: [OlaRegister; 10] = [
     OlaRegister::R0,
@@ -72,11 +58,7 @@ impl Place {
     pub fn index(self) -> usize
         ensures { result ≡ place_index self }
     {
-        match self {
-            Place::Op0 => 0,
-            Place::Op1 => 1,
-            Place::Dst => 2,
-        }
+        self as usize
     }
 }
 
@@ -84,57 +66,35 @@ impl OlaRegister {
     pub fn index(self) -> usize
         ensures { result ≡ register_index self }
     {
-        match self {
-            OlaRegister::R0 => 0,
-            OlaRegister::R1 => 1,
-            OlaRegister::R2 => 2,
-            OlaRegister::R3 => 3,
-            OlaRegister::R4 => 4,
-            OlaRegister::R5 => 5,
-            OlaRegister::R6 => 6,
-            OlaRegister::R7 => 7,
-            OlaRegister::R8 => 8,
-            OlaRegister::R9 => 9,
-        }
+        self as usize
     }
 
     // The bit of a first word that stands for the register in a place.
     pub fn binary_bit_shift(self, place: Place) -> u8
         ensures { result ≡ register_bit place self }
     {
-        let p = place.index();
-        let i = self.index();
-        let shifts = REGISTER_SHIFTS[p];
-        shifts[i]
+        REGISTER_SHIFTS[place.index()][self.index()]
     }
 
     // The word that has this bit alone: `binary_bit_mask_as_op0`, `_as_op1` and `_as_dst` of the Rust.
     pub fn binary_bit_mask(self, place: Place) -> u64
         ensures { result ≡ register_mask place self }
     {
-        1 << (self.binary_bit_shift(place) as u64)
+        1 << self.binary_bit_shift(place)
     }
 }
 
 // The register of a place in a first word: the lowest whose bit is set. All ten are looked at, from the lowest up: `clear` is 1 until one is set and 0 from
 // there on, so `found` counts the registers before the first that is set, ten where none is.
-pub fn lowest_register(word: u64, place: Place) -> RegisterFound
+pub fn lowest_register(word: u64, place: Place) -> Option<OlaRegister>
     ensures { result ≡ register_in place word }
 {
-    let p = place.index();
-    let shifts = REGISTER_SHIFTS[p];
     let mut clear = 1;
     let mut found = 0;
-    let mut i = 0;
-    while i < 10 {
-        let shift = shifts[i];
-        let bit = (word >> (shift as u64)) % 2;
+    for shift in REGISTER_SHIFTS[place.index()] {
+        let bit = (word >> shift) % 2;
         clear -= clear * bit;
         found += clear as usize;
-        i += 1;
     }
-    if found == 10 {
-        return RegisterFound::Nothing;
-    }
-    RegisterFound::Is(REGISTERS[found])
+    REGISTERS.get(found).copied()
 }

@@ -1,9 +1,8 @@
 -- "Mnemonics are compared and written as fixed lower-case spellings; RC is `range`, EVENT is `log`."
-use Rattle.std.specs.Prelude.{ℕ, List}
+use Rattle.std.specs.Prelude.{ℕ, List, Option}
 use Rattle.text.specs.Bytes.{bytes, same}
 use Rattle.vm_opcodes.specs.declared.OlaOpcode.{OlaOpcode}
 use Rattle.vm_opcodes.specs.declared.OlaOpcode.TheVariants.{ADD, MUL, EQ, ASSERT, MOV, JMP, CJMP, CALL, RET, MLOAD, MSTORE, END, RC, AND, OR, XOR, NOT, NEQ, GTE, POSEIDON, SLOAD, SSTORE, TLOAD, TSTORE, SCCALL, SIGCHECK, EVENT}
-use Rattle.vm_opcodes.specs.declared.OpcodeFound.{OpcodeFound}
 use Rattle.vm_opcodes.specs.Operations.{operations, first_operation}
 
 -- the spelling of an operation
@@ -37,5 +36,5 @@ mnemonic SIGCHECK = bytes "sigcheck"
 mnemonic EVENT = bytes "log"
 
 -- the operation that a piece spells
-abbrev pub operation_of : List ℕ → OpcodeFound
+abbrev pub operation_of : List ℕ → Option OlaOpcode
 operation_of s = first_operation (λ o. same s (mnemonic o)) operations

@@ -1,13 +1,11 @@
-// The mnemonics of the operations as fixed byte strings, compared with a piece: `from_str` of core/src/vm/opcodes.rs. They are written by
-// crate vm_tokens.
-// The length of the piece decides which mnemonics it is compared with.
+// The mnemonics of the operations, and the operation that a piece spells: `token` and `from_str` of core/src/vm/opcodes.rs. Crate vm_tokens writes them.
 #![tactic(auto)]
 
-ghost use Rattle.std.specs.Prelude.{◌≡◌, length};
-ghost use Rattle.text.specs.Bytes.{same};
+ghost use Rattle.std.specs.Prelude.{◌≡◌, find, length, option_map};
+ghost use Rattle.std.specs.Str.{bytes_eq};
 ghost use Rattle.vm_mnemonics.specs.Mnemonics.{mnemonic, operation_of};
 
-use vm_opcodes::{OlaOpcode, OpcodeFound};
+use vm_opcodes::OlaOpcode;
 
 pub const ADD: [u8; 3] = *b"add";
 
@@ -63,153 +61,106 @@ pub const SIGCHECK: [u8; 8] = *b"sigcheck";
 
 pub const EVENT: [u8; 3] = *b"log";
 
-// The operation whose mnemonic is a piece of two bytes.
-fn of_two(piece: &[u8]) -> OpcodeFound
-    requires { length piece.now ≡ 2 }
-    ensures { result ≡ operation_of piece.now }
+// The operation's mnemonic, in lower case.
+pub fn mnemonic(opcode: OlaOpcode) -> &'static [u8]
+    ensures { result.now ≡ mnemonic opcode }
 {
-    if text::same_bytes(piece, &EQ) {
-        return OpcodeFound::Is(OlaOpcode::EQ);
+    match opcode {
+        OlaOpcode::ADD => &ADD,
+        OlaOpcode::MUL => &MUL,
+        OlaOpcode::EQ => &EQ,
+        OlaOpcode::ASSERT => &ASSERT,
+        OlaOpcode::MOV => &MOV,
+        OlaOpcode::JMP => &JMP,
+        OlaOpcode::CJMP => &CJMP,
+        OlaOpcode::CALL => &CALL,
+        OlaOpcode::RET => &RET,
+        OlaOpcode::MLOAD => &MLOAD,
+        OlaOpcode::MSTORE => &MSTORE,
+        OlaOpcode::END => &END,
+        OlaOpcode::RC => &RC,
+        OlaOpcode::AND => &AND,
+        OlaOpcode::OR => &OR,
+        OlaOpcode::XOR => &XOR,
+        OlaOpcode::NOT => &NOT,
+        OlaOpcode::NEQ => &NEQ,
+        OlaOpcode::GTE => &GTE,
+        OlaOpcode::POSEIDON => &POSEIDON,
+        OlaOpcode::SLOAD => &SLOAD,
+        OlaOpcode::SSTORE => &SSTORE,
+        OlaOpcode::TLOAD => &TLOAD,
+        OlaOpcode::TSTORE => &TSTORE,
+        OlaOpcode::SCCALL => &SCCALL,
+        OlaOpcode::SIGCHECK => &SIGCHECK,
+        OlaOpcode::EVENT => &EVENT,
     }
-    if text::same_bytes(piece, &OR) {
-        return OpcodeFound::Is(OlaOpcode::OR);
-    }
-    OpcodeFound::Nothing
 }
 
-// Whether a piece is a word of three bytes, as twelve mnemonics are.
-fn is_three(piece: &[u8], word: [u8; 3]) -> bool
-    ensures { result ≡ same piece.now word }
+// The operation of the mnemonic that a piece of N bytes is, the first of some.
+fn spelled<const N: usize>(piece: &[u8], mnemonics: &[([u8; N], OlaOpcode)]) -> Option<OlaOpcode>
+    requires { length piece.now ≡ N }
+    ensures { result ≡ option_map (λ m. m.1) (find (λ m. bytes_eq piece.now m.0) mnemonics.now) }
 {
-    text::same_bytes(piece, &word)
+    let word: [u8; N] = piece.try_into().unwrap();
+    for (mnemonic, opcode) in mnemonics {
+        if word == *mnemonic {
+            return Some(*opcode);
+        }
+    }
+    None
 }
 
-// The operation whose mnemonic is a piece of three bytes.
-fn of_three(piece: &[u8]) -> OpcodeFound
-    requires { length piece.now ≡ 3 }
-    ensures { result ≡ operation_of piece.now }
-{
-    if is_three(piece, ADD) {
-        return OpcodeFound::Is(OlaOpcode::ADD);
-    }
-    if is_three(piece, MUL) {
-        return OpcodeFound::Is(OlaOpcode::MUL);
-    }
-    if is_three(piece, MOV) {
-        return OpcodeFound::Is(OlaOpcode::MOV);
-    }
-    if is_three(piece, JMP) {
-        return OpcodeFound::Is(OlaOpcode::JMP);
-    }
-    if is_three(piece, RET) {
-        return OpcodeFound::Is(OlaOpcode::RET);
-    }
-    if is_three(piece, END) {
-        return OpcodeFound::Is(OlaOpcode::END);
-    }
-    if is_three(piece, AND) {
-        return OpcodeFound::Is(OlaOpcode::AND);
-    }
-    if is_three(piece, XOR) {
-        return OpcodeFound::Is(OlaOpcode::XOR);
-    }
-    if is_three(piece, NOT) {
-        return OpcodeFound::Is(OlaOpcode::NOT);
-    }
-    if is_three(piece, NEQ) {
-        return OpcodeFound::Is(OlaOpcode::NEQ);
-    }
-    if is_three(piece, GTE) {
-        return OpcodeFound::Is(OlaOpcode::GTE);
-    }
-    if is_three(piece, EVENT) {
-        return OpcodeFound::Is(OlaOpcode::EVENT);
-    }
-    OpcodeFound::Nothing
-}
-
-// The operation whose mnemonic is a piece of four bytes.
-fn of_four(piece: &[u8]) -> OpcodeFound
-    requires { length piece.now ≡ 4 }
-    ensures { result ≡ operation_of piece.now }
-{
-    if text::same_bytes(piece, &CJMP) {
-        return OpcodeFound::Is(OlaOpcode::CJMP);
-    }
-    if text::same_bytes(piece, &CALL) {
-        return OpcodeFound::Is(OlaOpcode::CALL);
-    }
-    OpcodeFound::Nothing
-}
-
-// The operation whose mnemonic is a piece of five bytes.
-fn of_five(piece: &[u8]) -> OpcodeFound
-    requires { length piece.now ≡ 5 }
-    ensures { result ≡ operation_of piece.now }
-{
-    if text::same_bytes(piece, &MLOAD) {
-        return OpcodeFound::Is(OlaOpcode::MLOAD);
-    }
-    if text::same_bytes(piece, &RC) {
-        return OpcodeFound::Is(OlaOpcode::RC);
-    }
-    if text::same_bytes(piece, &SLOAD) {
-        return OpcodeFound::Is(OlaOpcode::SLOAD);
-    }
-    if text::same_bytes(piece, &TLOAD) {
-        return OpcodeFound::Is(OlaOpcode::TLOAD);
-    }
-    OpcodeFound::Nothing
-}
-
-// The operation whose mnemonic is a piece of six bytes.
-fn of_six(piece: &[u8]) -> OpcodeFound
-    requires { length piece.now ≡ 6 }
-    ensures { result ≡ operation_of piece.now }
-{
-    if text::same_bytes(piece, &ASSERT) {
-        return OpcodeFound::Is(OlaOpcode::ASSERT);
-    }
-    if text::same_bytes(piece, &MSTORE) {
-        return OpcodeFound::Is(OlaOpcode::MSTORE);
-    }
-    if text::same_bytes(piece, &SSTORE) {
-        return OpcodeFound::Is(OlaOpcode::SSTORE);
-    }
-    if text::same_bytes(piece, &TSTORE) {
-        return OpcodeFound::Is(OlaOpcode::TSTORE);
-    }
-    if text::same_bytes(piece, &SCCALL) {
-        return OpcodeFound::Is(OlaOpcode::SCCALL);
-    }
-    OpcodeFound::Nothing
-}
-
-// The operation whose mnemonic is a piece of eight bytes.
-fn of_eight(piece: &[u8]) -> OpcodeFound
-    requires { length piece.now ≡ 8 }
-    ensures { result ≡ operation_of piece.now }
-{
-    if text::same_bytes(piece, &POSEIDON) {
-        return OpcodeFound::Is(OlaOpcode::POSEIDON);
-    }
-    if text::same_bytes(piece, &SIGCHECK) {
-        return OpcodeFound::Is(OlaOpcode::SIGCHECK);
-    }
-    OpcodeFound::Nothing
-}
-
-// The operation whose mnemonic a piece is, letter by letter: no other case, nothing around it.
-pub fn from_str(piece: &[u8]) -> OpcodeFound
+// The operation whose mnemonic a piece is, letter by letter: no other case, nothing around it. The length of the piece decides which mnemonics it is
+// compared with.
+pub fn from_str(piece: &[u8]) -> Option<OlaOpcode>
     ensures { result ≡ operation_of piece.now }
 {
     match piece.len() {
-        2 => of_two(piece),
-        3 => of_three(piece),
-        4 => of_four(piece),
-        5 => of_five(piece),
-        6 => of_six(piece),
-        8 => of_eight(piece),
-        _ => OpcodeFound::Nothing,
+        2 => spelled(piece, &[(EQ, OlaOpcode::EQ), (OR, OlaOpcode::OR)]),
+        3 => spelled(
+            piece,
+            &[
+                (ADD, OlaOpcode::ADD),
+                (MUL, OlaOpcode::MUL),
+                (MOV, OlaOpcode::MOV),
+                (JMP, OlaOpcode::JMP),
+                (RET, OlaOpcode::RET),
+                (END, OlaOpcode::END),
+                (AND, OlaOpcode::AND),
+                (XOR, OlaOpcode::XOR),
+                (NOT, OlaOpcode::NOT),
+                (NEQ, OlaOpcode::NEQ),
+                (GTE, OlaOpcode::GTE),
+                (EVENT, OlaOpcode::EVENT),
+            ],
+        ),
+        4 => spelled(piece, &[(CJMP, OlaOpcode::CJMP), (CALL, OlaOpcode::CALL)]),
+        5 => spelled(
+            piece,
+            &[
+                (MLOAD, OlaOpcode::MLOAD),
+                (RC, OlaOpcode::RC),
+                (SLOAD, OlaOpcode::SLOAD),
+                (TLOAD, OlaOpcode::TLOAD),
+            ],
+        ),
+        6 => spelled(
+            piece,
+            &[
+                (ASSERT, OlaOpcode::ASSERT),
+                (MSTORE, OlaOpcode::MSTORE),
+                (SSTORE, OlaOpcode::SSTORE),
+                (TSTORE, OlaOpcode::TSTORE),
+                (SCCALL, OlaOpcode::SCCALL),
+            ],
+        ),
+        8 => spelled(
+            piece,
+            &[
+                (POSEIDON, OlaOpcode::POSEIDON),
+                (SIGCHECK, OlaOpcode::SIGCHECK),
+            ],
+        ),
+        _ => None,
     }
 }

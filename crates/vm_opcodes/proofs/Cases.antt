@@ -1,4 +1,5 @@
 -- Operations, bits, first words and rows from the papers, against the definitions.
+use Rattle.std.specs.Prelude.{Option, Some, None}
 use mathlib.Core.Path.{◌≡◌, refl}
 use mathlib.Core.List.{List, [], ◌∷◌, map}
 use Prim.Native.Nat.{ℕ, ◌+◌, ◌^◌}
@@ -7,24 +8,22 @@ use Rattle.vm_opcodes.specs.declared.OlaOpcode.{OlaOpcode}
 use Rattle.vm_opcodes.specs.declared.OlaOpcode.TheVariants.{ADD, MOV, CJMP, RET, MLOAD, MSTORE, END, RC, TLOAD, SIGCHECK, EVENT}
 use Rattle.vm_opcodes.specs.declared.RowPlaces.{RowPlaces}
 use Rattle.vm_opcodes.specs.declared.RowPlaces.TheVariants.{DstOp0Op1, DstOp1, DstMemory, MemoryDst, Op0Op1, Bare}
-use Rattle.vm_opcodes.specs.declared.OpcodeFound.{OpcodeFound}
-use Rattle.vm_opcodes.specs.declared.OpcodeFound.TheVariants.{Is, Nothing}
 
 -- an operation and its bit
 abbrev bits : List (OlaOpcode × ℕ)
 bits = (ADD, 31) ∷ (EVENT, 5) ∷ (MLOAD, 22) ∷ (MSTORE, 21) ∷ (RC, 19) ∷ (END, 20) ∷ []
 
 -- a first word and its operation: three of the printing example, no bit of an operation, bits beside them alone, two of them
-abbrev words : List (ℕ × OpcodeFound)
+abbrev words : List (ℕ × Option OlaOpcode)
 words =
-    (0x4000000208000000, Is MOV)
-    ∷ (0x0000000000100000, Is END)
-    ∷ (0x0000000000800000, Is RET)
-    ∷ (0, Nothing)
-    ∷ (2 ^ 4, Nothing)
-    ∷ (2 ^ 63 + 2 ^ 62, Nothing)
-    ∷ (2 ^ 31 + 2 ^ 5, Is ADD)
-    ∷ (2 ^ 6 + 2 ^ 5, Is SIGCHECK)
+    (0x4000000208000000, Some MOV)
+    ∷ (0x0000000000100000, Some END)
+    ∷ (0x0000000000800000, Some RET)
+    ∷ (0, None)
+    ∷ (2 ^ 4, None)
+    ∷ (2 ^ 63 + 2 ^ 62, None)
+    ∷ (2 ^ 31 + 2 ^ 5, Some ADD)
+    ∷ (2 ^ 6 + 2 ^ 5, Some SIGCHECK)
     ∷ []
 
 -- an operation and the places of its row

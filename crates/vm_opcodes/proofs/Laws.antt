@@ -1,20 +1,16 @@
 -- Facts about the operations: their places in the order, the tables by that order, their bits, and the search for the highest bit.
+use Rattle.std.specs.Prelude.{Some, find}
 use mathlib.Core.Path.{◌≡◌, refl, sym, ap, ◌∙◌}
 use mathlib.Core.Bool.{Bool, true, false, cond}
 use mathlib.Core.List.{List, [], ◌∷◌, map}
-use Prim.Native.Nat.{ℕ, ◌+◌, ◌-◌, ◌*◌, ◌/◌, ◌%◌, ◌^◌, ◌<◌, ◌≤◌}
-use native.Mathlib.Nat.{pow-le-pow_right, mod-eq_of_lt, one-mul}
-use native.Mathlib.Numerals.{add-one}
+use Prim.Native.Nat.{ℕ, ◌<◌, ◌≤◌}
 use native.Mathlib.Omega.{arith}
-use borrow.Author.Tests.{eq-eqb, ne_eqb, ltb-true}
-use lib.Dec.{ltb, lit<}
-use lib.ListN.{length, get_or, drop, replicate, drop_of_length-le, get_or-replicate}
-use lib.Seq.{drop-cons}
-use Rattle.vm_opcodes.specs.Operations.{operations, index_of, operation_bit, bit, first_operation}
+use borrow.Author.Tests.{ltb-true}
+use lib.Dec.{ltb}
+use lib.ListN.{length, get_or, replicate, get_or-replicate}
+use Rattle.vm_opcodes.specs.Operations.{operations, index_of, operation_bit, first_operation}
 use Rattle.vm_opcodes.specs.declared.OlaOpcode.{OlaOpcode}
 use Rattle.vm_opcodes.specs.declared.OlaOpcode.TheVariants.{ADD}
-use Rattle.vm_opcodes.specs.declared.OpcodeFound.{OpcodeFound}
-use Rattle.vm_opcodes.specs.declared.OpcodeFound.TheVariants.{Is, Nothing}
 use Rattle.vm_opcodes.specs.contracts.OlaOpcode.{enum}
 use Rattle.vm_opcodes.proofs.Table.{at, placed}
 use Rattle.vm_opcodes.proofs.Variants.{each}
@@ -63,15 +59,6 @@ bit_most o = omega arith
 pub bit_one : (a b : OlaOpcode) → operation_bit a ≡ operation_bit b → a ≡ b
 bit_one a b e = index_one a b (omega (arith, index_lt a, index_lt b))
 
--- the word with an operation's bit alone fits 64 bits
-pub mask_lt : (o : OlaOpcode) → 2 ^ operation_bit o < 2 ^ 64
-mask_lt o =
-    let p : 2 ^ operation_bit o ≤ 2 ^ 31 = pow-le-pow_right (lit< tt) (bit_most o) in
-    omega arith
-
-pub mask_is : (o : OlaOpcode) (k : ℕ) → k ≡ operation_bit o → (1 * 2 ^ k) % 2 ^ 64 ≡ 2 ^ operation_bit o
-mask_is o k e = rw (e, one-mul) (mod-eq_of_lt (mask_lt o))
-
 -- two tables by the operations' order that agree as wholes agree at each operation; y stands past their ends
 pub agree : {Y : Type 0} (f g : OlaOpcode → Y) (y : Y) → map g operations ≡ map f operations → (o : OlaOpcode) → g o ≡ f o
 agree f g y t o = sym (entry_of g y (map g operations) refl o (index_of o) refl) ∙ entry_of f y (map g operations) t o (index_of o) refl
@@ -81,42 +68,17 @@ pub every_operation : (f : OlaOpcode → Bool) → replicate 27 true ≡ map f o
 every_operation f t o = sym (entry_of f false (replicate 27 true) t o (index_of o) refl) ∙ get_or-replicate 27 (index_of o) true false (index_lt o)
 
 -- the first operation that passes a test passes it
-pub first_holds : (f : OlaOpcode → Bool) (os : List OlaOpcode) (o : OlaOpcode) → first_operation f os ≡ Is o → f o ≡ true
+pub first_holds : (f : OlaOpcode → Bool) (os : List OlaOpcode) (o : OlaOpcode) → first_operation f os ≡ Some o → f o ≡ true
 unfolding first_operation
 first_holds f [] o h = cc
 first_holds f (x ∷ os) o h = go (f x) refl (first_holds f os o) h
   where
-    go : (t : Bool) → f x ≡ t → (first_operation f os ≡ Is o → f o ≡ true) → cond t (Is x) (first_operation f os) ≡ Is o → f o ≡ true
+    go : (t : Bool) → f x ≡ t → (first_operation f os ≡ Some o → f o ≡ true) → cond t (Some x) (first_operation f os) ≡ Some o → f o ≡ true
     go true e r h = cc
     go false e r h = r h
 
--- the search for the first operation that passes a test, at place i of a list
-module _ (f : OlaOpcode → Bool) (x : OpcodeFound) (l : List OlaOpcode) (i : ℕ) (e : x ≡ first_operation f (drop i l)) where
-  pub first_passes : i < length l → f (get_or l i ADD) ≡ true → Is (get_or l i ADD) ≡ x
-  unfolding first_operation
-  first_passes h b = sym (e ∙ rw (drop-cons l i ADD h, b))
-
-  pub first_fails : i < length l → f (get_or l i ADD) ≡ false → x ≡ first_operation f (drop (i + 1) l)
-  unfolding first_operation
-  first_fails h b = e ∙ rw (add-one, drop-cons l i ADD h, b)
-
-  pub first_none : length l ≤ i → Nothing ≡ x
-  unfolding first_operation
-  first_none h = sym (e ∙ rw (drop_of_length-le l h))
-
--- the search for the highest bit at place i of the order, whose shift is 31 - i: the bit of the operation there decides
-module _ (x : OpcodeFound) (w i : ℕ) (e : x ≡ first_operation (λ o. bit (operation_bit o) w) (drop i operations)) where
-  module _ (shift : ℕ) (s : shift ≡ 31 - i) (h : i < 27) where
-    same_bit : w / 2 ^ shift % 2 ≡ w / 2 ^ operation_bit (get_or operations i ADD) % 2
-    same_bit = ap (λ (k : ℕ). w / 2 ^ k % 2) (s ∙ ap (λ (k : ℕ). 31 - k) (sym (place_index_lem i h)))
-
-    pub found : (table : List OlaOpcode) → table ≡ operations → w / 2 ^ shift % 2 ≡ 1 → Is (get_or table i ADD) ≡ x
-    found table t b =
-        ap (λ (l : List OlaOpcode). Is (get_or l i ADD)) t
-        ∙ first_passes (λ o. bit (operation_bit o) w) x operations i e (omega (arith, operations_long)) (eq-eqb _ 1 (sym same_bit ∙ b))
-
-    pub passed : (w / 2 ^ shift % 2 ≡ 1 → ⊥) → x ≡ first_operation (λ o. bit (operation_bit o) w) (drop (i + 1) operations)
-    passed b = first_fails (λ o. bit (operation_bit o) w) x operations i e (omega (arith, operations_long)) (ne_eqb _ 1 (λ p. b (same_bit ∙ p)))
-
-  pub none_left : 27 ≤ i → Nothing ≡ x
-  none_left h = first_none (λ o. bit (operation_bit o) w) x operations i e (omega (arith, operations_long))
+-- `find` is that search
+pub find_first : (f : OlaOpcode → Bool) (os : List OlaOpcode) → find f os ≡ first_operation f os
+unfolding first_operation
+find_first f [] = refl
+find_first f (o ∷ os) = rw (find_first f os)

@@ -1,5 +1,4 @@
 pub mod Table
 pub mod Variants
 pub mod Laws
-pub mod Arms
 pub mod Cases

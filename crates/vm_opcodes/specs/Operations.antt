@@ -1,11 +1,9 @@
 -- "Operations and registers": the operations in the order of `OlaOpcode`, their bits, and the places of their rows.
-use Rattle.std.specs.Prelude.{ℕ, ◌-◌, ◌/◌, ◌%◌, ◌^◌, List, [], ◌∷◌, Bool, cond, eqb}
+use Rattle.std.specs.Prelude.{ℕ, ◌-◌, ◌/◌, ◌%◌, ◌^◌, List, [], ◌∷◌, Bool, cond, eqb, Option, Some, None}
 use Rattle.vm_opcodes.specs.declared.OlaOpcode.{OlaOpcode}
 use Rattle.vm_opcodes.specs.declared.OlaOpcode.TheVariants.{ADD, MUL, EQ, ASSERT, MOV, JMP, CJMP, CALL, RET, MLOAD, MSTORE, END, RC, AND, OR, XOR, NOT, NEQ, GTE, POSEIDON, SLOAD, SSTORE, TLOAD, TSTORE, SCCALL, SIGCHECK, EVENT}
 use Rattle.vm_opcodes.specs.declared.RowPlaces.{RowPlaces}
 use Rattle.vm_opcodes.specs.declared.RowPlaces.TheVariants.{DstOp0Op1, DstOp1, DstMemory, MemoryDst, Op0Op1, Op1, Bare}
-use Rattle.vm_opcodes.specs.declared.OpcodeFound.{OpcodeFound}
-use Rattle.vm_opcodes.specs.declared.OpcodeFound.TheVariants.{Is, Nothing}
 
 -- "in the order of `OlaOpcode`"
 unfoldable pub operations : List OlaOpcode
@@ -54,12 +52,12 @@ abbrev pub bit : ℕ → ℕ → Bool
 bit k w = eqb (w / 2 ^ k % 2) 1
 
 -- the first operation in that order that passes a test
-unfoldable pub first_operation : (OlaOpcode → Bool) → List OlaOpcode → OpcodeFound
-first_operation f [] = Nothing
-first_operation f (o ∷ os) = cond (f o) (Is o) (first_operation f os)
+unfoldable pub first_operation : (OlaOpcode → Bool) → List OlaOpcode → Option OlaOpcode
+first_operation f [] = None
+first_operation f (o ∷ os) = cond (f o) (Some o) (first_operation f os)
 
 -- "The operation is the highest of bits 31 to 5 that is set": the first in the order of `OlaOpcode`
-abbrev pub operation_in : ℕ → OpcodeFound
+abbrev pub operation_in : ℕ → Option OlaOpcode
 operation_in w = first_operation (λ o. bit (operation_bit o) w) operations
 
 -- "A listing row is the mnemonic and then": dst, op0, op1 for add, mul, and, or, xor, eq, neq, gte, tload, poseidon; dst, op1

@@ -1,4 +1,5 @@
 -- Printed digits, to any base up to 16: which bytes they are, and that they are read as the number that was printed.
+use Rattle.std.specs.Prelude.{Some, None}
 use Prim.Native.Nat.{ℕ, zero, suc, ◌+◌, ◌/◌, ◌%◌, ◌^◌, ◌<◌, ◌≤◌}
 use mathlib.Core.Path.{◌≡◌, refl, sym, ap, ◌∙◌}
 use mathlib.Core.List.{List, [], ◌∷◌, ◌++◌}
@@ -10,7 +11,6 @@ use lib.Dec.{ltb}
 use Rattle.text.specs.Bytes.{is_digit}
 use Rattle.text.specs.Scan.{all, is_empty}
 use Rattle.text_read.specs.Numerals.{digit_value, is_digit_of, value_from, numeral}
-use Rattle.text_read.specs.declared.Numeral.TheVariants.{Value, Nothing}
 use Rattle.text_read.proofs.Laws.{digit_decimal, digit_lower, value_last, numeral_is}
 use Rattle.text_write.specs.Digits.{digit_byte, digits_of}
 use Rattle.text_write.proofs.Laws.{length_digits}
@@ -60,20 +60,20 @@ module _ (base : ℕ) (low : 2 ≤ base) (high : base ≤ 16) where
       ∙ rw (digits_value n (v / base) k, last_digit v) (div-add-mod' v base)
 
   -- n digits, to any base up to 16, are read as the number that was printed
-  pub digits_read_to : (n v bound : ℕ) → 1 ≤ n → v < base ^ n → v < bound → numeral base bound (digits_of base n v) ≡ Value v
+  pub digits_read_to : (n v bound : ℕ) → 1 ≤ n → v < base ^ n → v < bound → numeral base bound (digits_of base n v) ≡ Some v
   digits_read_to n v bound some h k =
       let e = digits_value n v h in
       let l = length_digits base n v in
-      numeral_is base bound (digits_of base n v) (λ z. omega arith) (digits_all n v) (rw e k) ∙ ap Value e
+      numeral_is base bound (digits_of base n v) (λ z. omega arith) (digits_all n v) (rw e k) ∙ ap Some e
 
   -- and not where that is at or above the bound
-  pub digits_over : (n v bound : ℕ) → v < base ^ n → bound ≤ v → numeral base bound (digits_of base n v) ≡ Nothing
+  pub digits_over : (n v bound : ℕ) → v < base ^ n → bound ≤ v → numeral base bound (digits_of base n v) ≡ None
   unfolding numeral
   digits_over n v bound h k =
       rw (digits_value n v h, le-ltb v bound k, and-false (not (is_empty (digits_of base n v)) && all (is_digit_of base) (digits_of base n v)))
 
 -- hexadecimal digits
-pub digits_read : (n v bound : ℕ) → 1 ≤ n → v < 16 ^ n → v < bound → numeral 16 bound (digits_of 16 n v) ≡ Value v
+pub digits_read : (n v bound : ℕ) → 1 ≤ n → v < 16 ^ n → v < bound → numeral 16 bound (digits_of 16 n v) ≡ Some v
 digits_read = digits_read_to 16 (omega arith) (omega arith)
 
 -- decimal ones are `0` to `9`

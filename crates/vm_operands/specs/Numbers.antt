@@ -1,11 +1,7 @@
 -- "Numbers": made from an optional sign and decimal digits.
-use Rattle.std.specs.Prelude.{ℕ, ◌-◌, List, Bool, ◌&&◌, ◌||◌, cond, eqb, ltb, drop, get_or}
-use Rattle.text_read.specs.declared.Numeral.{Numeral}
-use Rattle.text_read.specs.declared.Numeral.TheVariants.{Value, Nothing as NoNumeral}
+use Rattle.std.specs.Prelude.{ℕ, ◌-◌, List, Bool, ◌&&◌, ◌||◌, cond, eqb, ltb, drop, get_or, Option, Some, None}
 use Rattle.text_read.specs.Numerals.{decimal}
 use Rattle.vm_operands.specs.declared.ImmediateValue.{ImmediateValue}
-use Rattle.vm_operands.specs.declared.ImmediateFound.{ImmediateFound}
-use Rattle.vm_operands.specs.declared.ImmediateFound.TheVariants.{Is, Nothing}
 
 -- "p = 0xFFFFFFFF00000001"
 abbrev pub order : ℕ
@@ -24,9 +20,9 @@ abbrev pub in_field : Bool → ℕ → ℕ
 in_field negative m = cond (negative && ltb 0 m) (order - m) m
 
 -- "v is accepted when -p < v < p"
-unfoldable pub signed : Bool → Numeral → ImmediateFound
-signed negative (Value m) = cond (ltb m order) (Is (immediate (in_field negative m))) Nothing
-signed negative NoNumeral = Nothing
+unfoldable pub signed : Bool → Option ℕ → Option ImmediateValue
+signed negative (Some m) = cond (ltb m order) (Some (immediate (in_field negative m))) None
+signed negative None = None
 
 abbrev pub is_minus : List ℕ → Bool
 is_minus s = eqb (get_or s 0 0) 45
@@ -40,5 +36,5 @@ abbrev pub unsigned : List ℕ → List ℕ
 unsigned s = cond (is_signed s) (drop 1 s) s
 
 -- the number that a text is: "an optional sign and decimal digits, any count of leading zeros"
-unfoldable pub number_of : List ℕ → ImmediateFound
+unfoldable pub number_of : List ℕ → Option ImmediateValue
 number_of s = signed (is_minus s) (decimal order (unsigned s))

@@ -6,21 +6,12 @@ ghost use Rattle.text_write.specs.Put.{put_count, put_into};
 ghost use Rattle.text_write.specs.Digits.{fewest_text};
 ghost use Rattle.vm_operands.specs.Numbers.{immediate, is_in_field, signed, number_of};
 
-use text_read::Numeral;
-use text_write::Put;
 use vm_hardware::{OlaRegister, OlaSpecialRegister};
 
 // A number of the field. Its number may be ORDER or more where a caller makes one, which encoding refuses.
 #[derive(Clone, Copy)]
 pub struct ImmediateValue {
     pub number: u64,
-}
-
-// A number, or none.
-#[derive(Clone, Copy)]
-pub enum ImmediateFound {
-    Is(ImmediateValue),
-    Nothing,
 }
 
 // What a place of an instruction holds: nothing, or one of five contents.
@@ -60,43 +51,34 @@ impl ImmediateValue {
     }
 
     // A sign and a magnitude in place of the Rust's i128: a negative v becomes p + v, and -0 is 0.
-    pub fn from_sign(negative: bool, magnitude: Numeral) -> ImmediateFound
+    #[tactic(auto, unfolding(crate::specs::Numbers::signed))]
+    pub fn from_sign(negative: bool, magnitude: Option<u64>) -> Option<ImmediateValue>
         ensures { result ≡ signed negative magnitude }
     {
-        match magnitude {
-            Numeral::Value(m) => {
-                if Self::ORDER <= m {
-                    return ImmediateFound::Nothing;
-                }
-                if negative {
-                    if m == 0 {
-                        return ImmediateFound::Is(ImmediateValue { number: 0 });
-                    }
-                    return ImmediateFound::Is(ImmediateValue {
-                        number: Self::ORDER - m,
-                    });
-                }
-                ImmediateFound::Is(ImmediateValue { number: m })
-            }
-            Numeral::Nothing => ImmediateFound::Nothing,
+        let m = magnitude?;
+        if Self::ORDER <= m {
+            return None;
         }
+        Some(Self {
+            number: if negative && m != 0 {
+                Self::ORDER - m
+            } else {
+                m
+            },
+        })
     }
 
     // An optional sign and decimal digits, any count of leading zeros, -p < v < p.
-    pub fn from_str(piece: &[u8]) -> ImmediateFound
+    #[tactic(auto, unfolding(crate::specs::Numbers::number_of))]
+    pub fn from_str(piece: &[u8]) -> Option<ImmediateValue>
         ensures { result ≡ number_of piece.now }
     {
-        if piece.len() == 0 {
-            return ImmediateFound::Nothing;
-        }
-        let sign = piece[0];
-        if sign == b'-' {
-            return Self::from_sign(true, text_read::read_decimal(&piece[1..], Self::LARGEST));
-        }
-        if sign == b'+' {
-            return Self::from_sign(false, text_read::read_decimal(&piece[1..], Self::LARGEST));
-        }
-        Self::from_sign(false, text_read::read_decimal(piece, Self::LARGEST))
+        let (negative, digits) = match piece {
+            [b'-', digits @ ..] => (true, digits),
+            [b'+', digits @ ..] => (false, digits),
+            digits => (false, digits),
+        };
+        Self::from_sign(negative, text_read::read_decimal(digits, Self::LARGEST))
     }
 
     // Whether the number is below p.
@@ -107,10 +89,9 @@ impl ImmediateValue {
     }
 
     // Writes `0x` and the fewest lower-case digits.
-    pub fn put(self, text: &mut [u8], at: usize) -> Put
+    pub fn put(self, text: &mut [u8], at: usize) -> Option<usize>
         ensures { (result ≡ put_count text.old at (fewest_text self.number)) × (text.new ≡ put_into text.old at (fewest_text self.number)) }
     {
-        let number = self.number;
-        text_digits::put_fewest(text, at, number)
+        text_digits::put_fewest(text, at, self.number)
     }
 }

@@ -1,41 +1,24 @@
--- What the comparisons and the bytes lent say of the registers' spellings, one law for each way out.
-use mathlib.Core.Path.{◌≡◌, sym, ap, ◌∙◌}
-use mathlib.Core.Bool.{Bool, true, false}
+-- The special registers' spellings, byte by byte.
+use Rattle.std.specs.Prelude.{Some, None}
+use mathlib.Core.Path.{◌≡◌, refl}
+use mathlib.Core.Bool.{false, ◌&&◌, cond, and-true, and-false}
 use mathlib.Core.List.{List, [], ◌∷◌}
-use Prim.Native.Nat.{ℕ, ◌+◌}
-use Rattle.text.specs.Bytes.{bytes, same}
-use Rattle.text_write.proofs.Laws.{same_count, same_into}
-use Rattle.vm_hardware.specs.Registers.{register_index, register_text, special_text, special_of}
-use Rattle.vm_hardware.specs.declared.OlaRegister.{OlaRegister}
-use Rattle.vm_hardware.specs.declared.OlaSpecialRegister.{OlaSpecialRegister}
+use Prim.Native.Nat.{ℕ}
+use native.Mathlib.Omega.{arith}
+use borrow.Author.Tests.{ne_eqb}
+use lib.Dec.{eqb}
+use lib.ListN.{length, get_or}
+use Rattle.text.specs.Bytes.{same}
+use Rattle.vm_hardware.specs.Registers.{special_of}
 use Rattle.vm_hardware.specs.declared.OlaSpecialRegister.TheVariants.{PC, PSP}
-use Rattle.vm_hardware.specs.declared.SpecialFound.TheVariants.{Is as IsSpecial, Nothing as NoSpecial}
 
--- what a piece was told to be, by the comparisons with the two spellings
-module _ (s : List ℕ) (a : Bool) (e : a ≡ same s (bytes "pc")) where
-  pub special_pc : a ≡ true → IsSpecial PC ≡ special_of s
-  unfolding special_of
-  special_pc h = rw (sym e ∙ h)
-
-  module _ (b : Bool) (f : b ≡ same s (bytes "psp")) where
-    pub special_psp : a ≡ false → b ≡ true → IsSpecial PSP ≡ special_of s
-    unfolding special_of
-    special_psp h g = rw (sym e ∙ h, sym f ∙ g)
-
-    pub special_none : a ≡ false → b ≡ false → NoSpecial ≡ special_of s
-    unfolding special_of
-    special_none h g = rw (sym e ∙ h, sym f ∙ g)
-
-pub ruleset special_laws = (special_pc, special_psp, special_none)
-
--- the bytes that the writers lend are the spellings
-pub register_spelt : (r : OlaRegister) (k : ℕ) → k ≡ register_index r → 114 ∷ (48 + k) ∷ [] ≡ register_text r
-register_spelt r k e = ap (λ (j : ℕ). 114 ∷ (48 + j) ∷ []) e
-
-pub pc_spelt : (s : OlaSpecialRegister) → s ≡ PC → bytes "pc" ≡ special_text s
-pc_spelt s e = ap special_text (sym e)
-
-pub psp_spelt : (s : OlaSpecialRegister) → s ≡ PSP → bytes "psp" ≡ special_text s
-psp_spelt s e = ap special_text (sym e)
-
-pub ruleset put_laws = (register_spelt, pc_spelt, psp_spelt, same_count, same_into)
+pub special_by_bytes : (s : List ℕ) → special_of s ≡ cond (eqb (length s) 2 && (eqb (get_or s 0 0) 112 && eqb (get_or s 1 0) 99)) (Some PC) (cond (eqb (length s) 3 && (eqb (get_or s 0 0) 112 && (eqb (get_or s 1 0) 115 && eqb (get_or s 2 0) 112))) (Some PSP) None)
+unfolding special_of same
+special_by_bytes [] = refl
+special_by_bytes (a ∷ []) = simp and-false
+special_by_bytes (a ∷ b ∷ []) = simp (and-true, and-false)
+special_by_bytes (a ∷ b ∷ c ∷ []) = simp (and-true, and-false)
+special_by_bytes (a ∷ b ∷ c ∷ d ∷ s) =
+    let two : eqb (length (a ∷ b ∷ c ∷ d ∷ s)) 2 ≡ false = ne_eqb _ _ (λ h. omega (arith, h)) in
+    let three : eqb (length (a ∷ b ∷ c ∷ d ∷ s)) 3 ≡ false = ne_eqb _ _ (λ h. omega (arith, h)) in
+    simp (and-false, two, three)

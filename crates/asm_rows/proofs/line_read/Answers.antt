@@ -1,17 +1,8 @@
-use Rattle.asm_rows.proofs.RowLaws.{line_laws}
+use Rattle.asm_rows.proofs.RowLaws.{line_told}
 use Rattle.asm_rows.proofs.line_read.Goals as goal
 
-pub returns-then-piece-eq0 : goal.returns-then-piece-eq0
-returns-then-piece-eq0 c = search line_laws
+pub returns-in-Some : goal.returns-in-Some
+returns-in-Some c = line_told _ _ _ c.piece_at-piece.ensures _ _ _ c.if-piece-eq0.false c.from_str.ensures c.in-Some.is _ c.of_row.ensures c.operation_row.ensures
 
-pub overflow_add-end : goal.overflow_add-end
-overflow_add-end c = search line_laws
-
-pub slice_bounds-word-end : goal.slice_bounds-word-end
-slice_bounds-word-end c = search line_laws
-
-pub returns-in-Is : goal.returns-in-Is
-returns-in-Is c = search line_laws
-
-pub returns-in-Nothing : goal.returns-in-Nothing
-returns-in-Nothing c = search line_laws
+pub returns-in-None : goal.returns-in-None
+returns-in-None c = line_told _ _ _ c.piece_at-piece.ensures _ _ _ c.if-piece-eq0.false c.from_str.ensures c.in-None.is _ c.of_row-in-None.ensures c.label_row.ensures

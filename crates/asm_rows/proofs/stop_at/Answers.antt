@@ -1,14 +1,7 @@
-use Rattle.asm_rows.proofs.EndLaws.{stop_laws}
+-- `stop_at` meets its contract.
+use Rattle.std.proofs.Common.{arith, ◌≡◌, ◌∙◌}
+use Rattle.asm_rows.proofs.EndLaws.{stop_end}
 use Rattle.asm_rows.proofs.stop_at.Goals as goal
 
-pub returns-then-b-mark : goal.returns-then-b-mark
-returns-then-b-mark c = search stop_laws
-
-pub returns-then-b-eq10 : goal.returns-then-b-eq10
-returns-then-b-eq10 c = search stop_laws
-
-pub loop-i-preserved : goal.loop-i-preserved
-loop-i-preserved c = search stop_laws
-
 pub returns : goal.returns
-returns c = search stop_laws
+returns c = let e : c.max.result ≡ c.loop-i.i = omega arith in e ∙ stop_end _ _ _ _ c.loop-i.invariant.0 c.loop-i-test.false

@@ -1,18 +1,5 @@
--- `source_number` meets its contract.
-use Rattle.asm_shapes.proofs.Laws.{number_laws}
+use Rattle.asm_shapes.proofs.Laws.{number_hex}
 use Rattle.asm_shapes.proofs.source_number.Goals as goal
 
-pub returns-in-Value : goal.returns-in-Value
-returns-in-Value c = search number_laws
-
-pub returns-then-text-eq0 : goal.returns-then-text-eq0
-returns-then-text-eq0 c = search number_laws
-
-pub returns-then-sign-eq45 : goal.returns-then-sign-eq45
-returns-then-sign-eq45 c = search number_laws
-
-pub returns-then-sign-eq43 : goal.returns-then-sign-eq43
-returns-then-sign-eq43 c = search number_laws
-
-pub returns : goal.returns
-returns c = search number_laws
+pub returns-in-Some : goal.returns-in-Some
+returns-in-Some c = number_hex _ _ c.hex_numeral.ensures _ c.in-Some.is _ c.from_sign.ensures _ c.in_range.ensures

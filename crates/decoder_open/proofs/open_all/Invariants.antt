@@ -8,8 +8,13 @@ use Rattle.decoder.specs.Open.{all_decoded}
 use Rattle.decoder.specs.Steps.{accepted_of}
 use Rattle.decoder_open.proofs.open_all.Given as goal
 
-abbrev pub invariant-loop-at : goal.invariant-loop-at
-invariant-loop-at l = (accepted_of (all_decoded 0 (complete_of (line_groups (lines l.text)))) ≡ accepted_of (all_decoded l.index (complete_of (line_groups (lines (drop l.at l.text)))))) × (first_unreadable 0 (line_groups (lines l.text)) ≡ first_unreadable l.line (line_groups (lines (drop l.at l.text)))) × (l.index ≤ l.line) × (l.line ≤ l.at)
+abbrev pub invariant-loop-read : goal.invariant-loop-read
+invariant-loop-read l = record {
+  read : accepted_of (all_decoded 0 (complete_of (line_groups (lines l.text)))) ≡ accepted_of (all_decoded l.index (complete_of (line_groups (lines (drop l.at l.text)))));
+  unread : first_unreadable 0 (line_groups (lines l.text)) ≡ first_unreadable l.line (line_groups (lines (drop l.at l.text)));
+  counted : l.index ≤ l.line;
+  within : l.line ≤ l.at;
+}
 
-abbrev pub decreases-loop-at : goal.decreases-loop-at
-decreases-loop-at l = length l.text - l.at
+abbrev pub decreases-loop-read : goal.decreases-loop-read
+decreases-loop-read l = length l.text - l.at

@@ -6,7 +6,7 @@ pub returns-then-room-at : goal.returns-then-room-at
 returns-then-room-at c = search fit_laws
 
 pub loop-i-preserved : goal.loop-i-preserved
-loop-i-preserved c = (search fit_laws, search fit_laws, search fit_laws)
+loop-i-preserved c = (search fit_laws, search fit_laws)
 
 pub returns : goal.returns
 returns c = search fit_laws

@@ -1,5 +1,5 @@
 -- `write_rows` meets its contract.
-use Prim.Native.Nat.{◌+◌, ◌-◌, ◌≤◌}
+use Prim.Native.Nat.{◌+◌}
 use mathlib.Core.Path.{◌≡◌}
 use mathlib.Core.Bool.{false}
 use lib.ListN.{length, drop}
@@ -8,7 +8,4 @@ use Rattle.encoder_report.specs.Left.{rows_left}
 use Rattle.encoder_report.proofs.write_rows.Given as goal
 
 abbrev pub invariant-loop-i : goal.invariant-loop-i
-invariant-loop-i l = (l.i ≤ length l.words) × (length l.text ≡ length l.initial.text) × (l.start + length (rows_left 0 false l.words) ≡ l.at + length (rows_left l.i l.number (drop l.i l.words))) × (sets l.initial.text l.start (rows_left 0 false l.words) ≡ sets l.text l.at (rows_left l.i l.number (drop l.i l.words)))
-
-abbrev pub decreases-loop-i : goal.decreases-loop-i
-decreases-loop-i l = length l.words - l.i
+invariant-loop-i l = (l.start + length (rows_left 0 false l.words) ≡ l.at + length (rows_left l.i l.number (drop l.i l.words))) × (sets l.initial.text l.start (rows_left 0 false l.words) ≡ sets l.text l.at (rows_left l.i l.number (drop l.i l.words)))

@@ -1,8 +1,10 @@
 -- `operation_named` meets its contract: the table is the operations in their order.
-use Rattle.text.proofs.Laws.{tests}
+use mathlib.Core.Path.{◌∙◌}
 use Rattle.vm_opcodes.specs.Operations.{operations}
+use Rattle.vm_opcodes.specs.declared.OlaOpcode.TheVariants.{ADD}
+use Rattle.vm_opcodes.proofs.Table.{copied_at}
 use Rattle.ola_places.proofs.operation_named.Goals as goal
 
-pub returns-then-index-lt27 : goal.returns-then-index-lt27
+pub returns : goal.returns
 unfolding operations
-returns-then-index-lt27 c = search tests
+returns c = c.copied.ensures ∙ copied_at operations ADD c.args.index c.get.result c.get.ensures.lookup

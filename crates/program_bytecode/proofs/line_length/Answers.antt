@@ -1,9 +1,7 @@
 -- `line_length` meets its contract.
-use Rattle.program_bytecode.proofs.Laws.{length_laws}
+use native.Mathlib.Omega.{arith}
+use Rattle.program_bytecode.proofs.Laws.{put_long, line_most}
 use Rattle.program_bytecode.proofs.line_length.Goals as goal
 
-pub returns-in-Count : goal.returns-in-Count
-returns-in-Count c = search length_laws
-
-pub returns-in-Short : goal.returns-in-Short
-returns-in-Short c = absurd (search length_laws)
+pub returns : goal.returns
+returns c = put_long _ 0 _ _ _ c.put_line.ensures.0 c.unwrap_or.ensures (omega (arith, line_most c.args.number c.args.word c.ranges.word.fits))

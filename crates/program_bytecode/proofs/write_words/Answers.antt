@@ -6,7 +6,7 @@ pub write_word-at-requires : goal.write_word-at-requires
 write_word-at-requires c = search words_laws
 
 pub loop-i-preserved : goal.loop-i-preserved
-loop-i-preserved c = (search words_laws, search words_laws, search words_laws, search words_laws)
+loop-i-preserved c = (search words_laws, search words_laws)
 
 pub returns : goal.returns
 returns c = search words_laws

@@ -1,5 +1,5 @@
 -- `write_words` meets its contract.
-use Prim.Native.Nat.{◌+◌, ◌-◌, ◌≤◌}
+use Prim.Native.Nat.{◌+◌}
 use mathlib.Core.Path.{◌≡◌}
 use mathlib.Core.Bool.{true, false}
 use lib.Dec.{eqb}
@@ -9,7 +9,4 @@ use Rattle.program_bytecode.specs.Left.{left_text}
 use Rattle.program_bytecode.proofs.write_words.Given as goal
 
 abbrev pub invariant-loop-i : goal.invariant-loop-i
-invariant-loop-i l = (l.i ≤ length l.words) × (length l.text ≡ length l.initial.text) × (length (left_text true false l.words) ≡ l.at + length (left_text (eqb l.i 0) l.number (drop l.i l.words))) × (sets l.initial.text 0 (left_text true false l.words) ≡ sets l.text l.at (left_text (eqb l.i 0) l.number (drop l.i l.words)))
-
-abbrev pub decreases-loop-i : goal.decreases-loop-i
-decreases-loop-i l = length l.words - l.i
+invariant-loop-i l = (length (left_text true false l.words) ≡ l.at + length (left_text (eqb l.i 0) l.number (drop l.i l.words))) × (sets l.initial.text 0 (left_text true false l.words) ≡ sets l.text l.at (left_text (eqb l.i 0) l.number (drop l.i l.words)))

@@ -8,8 +8,5 @@ returns-then-has_too_large c = search row_laws
 pub returns-then-lacks_place : goal.returns-then-lacks_place
 returns-then-lacks_place c = search row_laws
 
-pub returns-in-Count : goal.returns-in-Count
-returns-in-Count c = search row_laws
-
-pub returns-in-Short : goal.returns-in-Short
-returns-in-Short c = search row_laws
+pub returns : goal.returns
+returns c = search row_laws

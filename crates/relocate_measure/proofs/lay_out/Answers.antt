@@ -1,15 +1,9 @@
--- `lay_out` meets its contract.
-use Rattle.relocate_measure.proofs.Laws.{lay_laws}
+-- `lay_out` meets its contract: a survey's refusal is passed on.
+use Rattle.std.proofs.Common.{rules}
+use Rattle.relocate_measure.proofs.Laws.{survey_refused}
 use Rattle.relocate_measure.proofs.lay_out.Goals as goal
 
-pub returns-then-source-gt-MOST_BYTES : goal.returns-then-source-gt-MOST_BYTES
-returns-then-source-gt-MOST_BYTES c = search lay_laws
-
-pub returns-then-n-source : goal.returns-then-n-source
-returns-then-n-source c = search lay_laws
-
-pub returns-in-Is : goal.returns-in-Is
-returns-in-Is c = search lay_laws
-
-pub returns-in-Unreadable : goal.returns-in-Unreadable
-returns-in-Unreadable c = search lay_laws
+pub returns-in_err-tally : goal.returns-in_err-tally
+returns-in_err-tally c =
+    let law = survey_refused _ _ c.if-source-gt-MOST_BYTES.false c.scan-n.ensures c.if-n-source.false _ c.survey.ensures in
+    search rules

@@ -1,12 +1,9 @@
 -- `measure` meets its contract.
-use Rattle.relocate_measure.proofs.Laws.{measure_laws}
+use Rattle.relocate_measure.proofs.Laws.{table_short, table_fits}
 use Rattle.relocate_measure.proofs.measure.Goals as goal
 
 pub returns-then-room-layout : goal.returns-then-room-layout
-returns-then-room-layout c = search measure_laws
+returns-then-room-layout c = table_short _ _ c.lay_out.ensures _ c.in_ok-layout.was _ c.if-room-layout.true
 
-pub returns-in-Refused : goal.returns-in-Refused
-returns-in-Refused c = search measure_laws
-
-pub returns-else-room-layout : goal.returns-else-room-layout
-returns-else-room-layout c = search measure_laws
+pub returns : goal.returns
+returns c = table_fits _ _ c.lay_out.ensures _ c.in_ok-layout.was _ c.if-room-layout.false

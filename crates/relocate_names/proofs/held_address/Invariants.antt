@@ -1,12 +1,10 @@
 -- `relocate_names::held_address` meets its contract.
-use Prim.Native.Nat.{◌≤◌}
 use mathlib.Core.Path.{◌≡◌}
-use lib.ListN.{length, take}
+use lib.ListN.{take}
 use Rattle.relocate.specs.Columns.{entries_of, held_address}
 use Rattle.relocate_names.proofs.held_address.Given as goal
 
 abbrev pub invariant-loop-i : goal.invariant-loop-i
-invariant-loop-i l = (l.i ≤ length l.kinds) × (l.i ≤ length l.mapped) × (l.i ≤ length l.starts) × (l.i ≤ length l.lengths) × (l.i ≤ length l.addresses) × (held_address l.source l.kind l.name (entries_of l.kinds l.mapped l.starts l.lengths l.addresses) ≡ held_address l.source l.kind l.name (take l.i (entries_of l.kinds l.mapped l.starts l.lengths l.addresses)))
-
-abbrev pub decreases-loop-i : goal.decreases-loop-i
-decreases-loop-i l = l.i
+invariant-loop-i l =
+    held_address l.source l.kind l.name (entries_of l.kinds l.mapped l.starts l.lengths l.addresses)
+    ≡ held_address l.source l.kind l.name (take l.i (entries_of l.kinds l.mapped l.starts l.lengths l.addresses))

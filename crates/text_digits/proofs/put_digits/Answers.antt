@@ -1,9 +1,7 @@
--- put_digits: storing the digits of what is left of the number comes to storing all of them.
-use Rattle.text_digits.proofs.Steps.{digits_laws}
+-- put_digits: the digits of what is left of the number, and behind them those written, are all the digits.
+use native.Mathlib.Omega.{arith}
+use Rattle.text_digits.proofs.Steps.{digits_end}
 use Rattle.text_digits.proofs.put_digits.Goals as goal
 
-pub loop-i-preserved : goal.loop-i-preserved
-loop-i-preserved c = (search digits_laws, search digits_laws, search digits_laws)
-
 pub returns : goal.returns
-returns c = search digits_laws
+returns c = digits_end _ _ _ _ _ (omega arith) c.loop-i.invariant

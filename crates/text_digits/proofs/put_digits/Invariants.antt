@@ -1,13 +1,9 @@
--- put_digits: storing the digits of what is left of the number comes to storing all of them.
-use Prim.Native.Nat.{◌≤◌}
+-- put_digits: the digits of what is left of the number, and behind them those written, are all the digits.
 use mathlib.Core.Path.{◌≡◌}
-use lib.ListN.{length}
-use lib.Seq.{sets}
+use mathlib.Core.List.{◌++◌}
+use lib.ListN.{length, drop}
 use Rattle.text_write.specs.Digits.{digits_of}
 use Rattle.text_digits.proofs.put_digits.Given as goal
 
 abbrev pub invariant-loop-i : goal.invariant-loop-i
-invariant-loop-i l = (l.i ≤ l.count) × (length l.text ≡ length l.initial.text) × (sets l.initial.text l.at (digits_of l.base l.count l.number) ≡ sets l.text l.at (digits_of l.base l.i l.rest))
-
-abbrev pub decreases-loop-i : goal.decreases-loop-i
-decreases-loop-i l = l.i
+invariant-loop-i l = digits_of l.base (length l.initial.bytes) l.number ≡ digits_of l.base l.i l.rest ++ drop l.i l.bytes

@@ -1,25 +1,20 @@
 -- `read_digits` answers the numeral: what is left of the text, after the value so far, says what the whole text says.
+use mathlib.Core.Path.{◌≡◌, ◌∙◌}
+use Rattle.std.specs.Prelude.{None}
 use native.Mathlib.Omega.{arith}
-use Rattle.text_read.proofs.Laws.{read_laws, read_other, read_beyond, read_over}
+use Rattle.std.proofs.Common.{rules}
+use Rattle.text_read.proofs.Laws.{read_other, read_over}
 use Rattle.text_read.proofs.read_digits.Goals as goal
 
-pub returns-then-digits-eq0 : goal.returns-then-digits-eq0
-returns-then-digits-eq0 c = search read_laws
+pub returns-then-base-digit : goal.returns-then-base-digit
+returns-then-base-digit c = read_other _ _ _ c.loop-b.b-index c.loop-b.value _ c.loop-b-test.true c.digit_value-digit.ensures c.if-base-digit.true c.loop-b.invariant
 
-pub loop-i-init : goal.loop-i-init
-loop-i-init c = (search read_laws, search read_laws, search read_laws)
+pub returns-in_err-checked_mul : goal.returns-in_err-checked_mul
+returns-in_err-checked_mul c =
+    let n : c.from_residual.result ≡ None = search rules in
+    n ∙ read_over _ _ _ c.loop-b.b-index c.loop-b.value _ (omega arith) c.loop-b-test.true c.digit_value-digit.ensures c.if-base-digit.false (omega (arith, c.in_err-checked_mul.ensures)) c.loop-b.invariant
 
-pub returns-then-base-d : goal.returns-then-base-d
-returns-then-base-d c = read_other _ _ _ c.loop-i.i c.loop-i.value _ c.loop-i-test.true c.digit_value-d.ensures c.if-base-d.true c.loop-i.invariant.2
-
-pub returns-then-most-d : goal.returns-then-most-d
-returns-then-most-d c = read_beyond _ _ _ c.loop-i.i c.loop-i.value _ (omega arith) c.loop-i-test.true c.digit_value-d.ensures c.if-base-d.false c.if-most-d.true c.loop-i.invariant.2
-
-pub returns-then-most-d-2 : goal.returns-then-most-d-2
-returns-then-most-d-2 c = read_over _ _ _ c.loop-i.i c.loop-i.value _ (omega arith) c.loop-i-test.true c.digit_value-d.ensures c.if-base-d.false c.if-most-d.false c.if-most-d-2.true c.loop-i.invariant.2
-
-pub loop-i-preserved : goal.loop-i-preserved
-loop-i-preserved c = (search read_laws, search read_laws, search read_laws)
-
-pub returns : goal.returns
-returns c = search read_laws
+pub returns-in_err-value : goal.returns-in_err-value
+returns-in_err-value c =
+    let n : c.from_residual-in_err-value.result ≡ None = search rules in
+    n ∙ read_over _ _ _ c.loop-b.b-index c.loop-b.value _ (omega arith) c.loop-b-test.true c.digit_value-digit.ensures c.if-base-digit.false (omega arith) c.loop-b.invariant

@@ -1,15 +1,6 @@
 -- `read_hexadecimal` answers the number after `0x` and a plus.
-use Rattle.text_read.proofs.Laws.{hex_laws}
+use Rattle.text_read.proofs.Laws.{hex_stripped}
 use Rattle.text_read.proofs.read_hexadecimal.Goals as goal
 
-pub returns-then-rest-eq0 : goal.returns-then-rest-eq0
-returns-then-rest-eq0 c = search hex_laws
-
-pub returns-then-rest-eq43 : goal.returns-then-rest-eq43
-returns-then-rest-eq43 c = search hex_laws
-
-pub returns-then-rest-eq16 : goal.returns-then-rest-eq16
-returns-then-rest-eq16 c = search hex_laws
-
 pub returns : goal.returns
-returns c = search hex_laws
+returns c = hex_stripped c.without_prefix-rest.result c.unwrap_or.result _ _ _ _ c.without_prefix-rest.ensures c.strip_prefix.ensures.cases c.unwrap_or.ensures c.read_hex_digits.ensures

@@ -1,24 +1,34 @@
--- `lowest_register` meets its contract. The invariant: in the place whose index is p, the search in which clear and found tell of the registers before i
--- answers as the whole search. While clear is 1 found is i, and once it is 0 found is below i.
-use mathlib.Core.Path.{refl}
+-- `lowest_register` meets its contract.
+use mathlib.Core.Path.{refl, ◌∙◌}
 use native.Mathlib.Omega.{arith}
+use Rattle.vm_opcodes.proofs.Table.{copied_at}
 use Rattle.vm_hardware.specs.Registers.{registers}
-use Rattle.vm_hardware.proofs.Laws.{looked, none_found, one_found}
+use Rattle.vm_hardware.specs.declared.OlaRegister.TheVariants.{R0}
+use Rattle.vm_hardware.proofs.Laws.{row_of, shift_at_lt, looked, last_found}
 use Rattle.vm_hardware.proofs.lowest_register.Goals as goal
 
-pub loop-i-preserved : goal.loop-i-preserved
+pub loop-shift-init : goal.loop-shift-init
 unfolding registers
-loop-i-preserved c = (
-  omega arith,
-  omega arith,
-  omega arith,
-  omega arith,
-  λ place e. looked _ refl place _ e _ c.args.word c.loop-i.clear c.loop-i.found c.loop-i.i (c.loop-i.invariant.4 place e) (omega arith) (omega arith) (λ o. omega arith) _ refl,
-)
+loop-shift-init c = record {
+  row = row_of _ refl c.args.place c.index.result c.index.ensures;
+  one = omega arith;
+  within = omega arith;
+  counted = omega arith;
+  search = refl;
+}
 
-pub returns-then-found-eq10 : goal.returns-then-found-eq10
-returns-then-found-eq10 c = none_found _ _ c.loop-i.clear c.loop-i.found c.loop-i.i (c.loop-i.invariant.4 c.args.place c.index-p.ensures) (omega arith) (omega arith)
+pub overflow_shr-bit : goal.overflow_shr-bit
+overflow_shr-bit c = shift_at_lt c.args.place _ c.loop-shift.invariant.row c.loop-shift.shift-index (omega arith)
+
+pub loop-shift-preserved : goal.loop-shift-preserved
+loop-shift-preserved c = record {
+  row = c.loop-shift.invariant.row;
+  one = omega arith;
+  within = omega arith;
+  counted = omega arith;
+  search = looked c.args.place _ c.loop-shift.invariant.row c.loop-shift.shift-index (omega arith) _ c.args.word c.loop-shift.clear c.loop-shift.found _ c.loop-shift.invariant.search (omega arith) (λ o. omega arith) refl;
+}
 
 pub returns : goal.returns
 unfolding registers
-returns c = one_found _ _ c.loop-i.clear c.loop-i.found c.loop-i.i (c.loop-i.invariant.4 c.args.place c.index-p.ensures) _ refl (omega arith)
+returns c = c.copied.ensures ∙ copied_at registers R0 c.loop-shift.found c.get.result c.get.ensures.lookup ∙ last_found _ _ c.loop-shift.clear c.loop-shift.found c.loop-shift.shift-index c.loop-shift.invariant.search (omega arith) (omega arith) (omega arith) (omega arith) (omega arith)

@@ -1,6 +1,0 @@
--- `write_row` meets its contract.
-use Rattle.encoder_report.proofs.Laws.{fields_laws}
-use Rattle.encoder_report.proofs.write_row.Goals as goal
-
-pub returns : goal.returns
-returns c = search fields_laws

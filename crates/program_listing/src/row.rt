@@ -1,0 +1,165 @@
+// A row that is put together, and the places of an instruction written to it. A listing row and a source row differ in how a place is written.
+
+ghost use Rattle.std.specs.Prelude.{◌≡◌, ℕ, ◌≤◌, List, [], ◌∷◌, ◌++◌, take};
+ghost use Rattle.text_write.specs.Digits.{fewest_text, decimal_text};
+ghost use Rattle.text_write.specs.Put.{put_count, put_into};
+ghost use Rattle.vm_mnemonics.specs.Mnemonics.{mnemonic};
+ghost use Rattle.vm_hardware.specs.Registers.{register_text, special_text};
+ghost use Rattle.vm_operands.specs.declared.OlaOperand.{OlaOperand};
+ghost use Rattle.program_listing.specs.Places.{row_with, Appends, spaced_by, bracketed_by, placed_by, row_by};
+
+use program::BinaryInstruction;
+use std::marker::Model;
+use vm_hardware::{OlaRegister, OlaSpecialRegister};
+use vm_opcodes::{OlaOpcode, RowPlaces};
+use vm_operands::{ImmediateValue, OlaOperand};
+
+// The bytes of a row, of which there are at most 82. A text that would be too long for it is left out as a whole.
+#[derive(Drop)]
+pub struct Row {
+    bytes: [u8; 82],
+    len: usize,
+}
+
+// Clauses see the bytes that were written.
+impl Model for Row {
+    ghost Value = { List ℕ };
+
+    ghost view = { λ r. take r.len r.bytes };
+
+    ghost invariant = { λ r. r.len ≤ 82 };
+}
+
+impl Row {
+    // Appends the operation's mnemonic.
+    fn push_mnemonic(&mut self, opcode: OlaOpcode)
+        ensures { self.new ≡ row_with self.old (mnemonic opcode) }
+    {
+        self.len += vm_tokens::put_token(opcode, &mut self.bytes, self.len).unwrap_or(0);
+    }
+
+    // Appends one byte.
+    pub fn push(&mut self, byte: u8)
+        ensures { self.new ≡ row_with self.old (byte ∷ []) }
+    {
+        if self.len < self.bytes.len() {
+            self.bytes[self.len] = byte;
+            self.len += 1;
+        }
+    }
+
+    // Appends a number as bytecode text prints it.
+    pub(crate) fn push_hex(&mut self, value: ImmediateValue)
+        ensures { self.new ≡ row_with self.old (fewest_text value.number) }
+    {
+        self.len += value.put(&mut self.bytes, self.len).unwrap_or(0);
+    }
+
+    // Appends a number in decimal.
+    pub fn push_decimal(&mut self, value: ImmediateValue)
+        ensures { self.new ≡ row_with self.old (decimal_text value.number) }
+    {
+        self.len += text_digits::put_decimal(&mut self.bytes, self.len, value.number).unwrap_or(0);
+    }
+
+    // Appends a register.
+    pub fn push_register(&mut self, register: OlaRegister)
+        ensures { self.new ≡ row_with self.old (register_text register) }
+    {
+        self.len += vm_registers::put_register(register, &mut self.bytes, self.len).unwrap_or(0);
+    }
+
+    // Appends a special register.
+    pub fn push_special(&mut self, special: OlaSpecialRegister)
+        ensures { self.new ≡ row_with self.old (special_text special) }
+    {
+        self.len += vm_registers::put_special(special, &mut self.bytes, self.len).unwrap_or(0);
+    }
+}
+
+// How a row writes a place, and what stands between the two places of an address.
+pub trait RowText {
+    ghost place: { OlaOperand → List ℕ };
+
+    ghost BETWEEN: { ℕ };
+
+    const BETWEEN: u8;
+
+    // Appends what stands in a place, of at most 23 bytes.
+    fn push_place(row: &mut Row, operand: OlaOperand)
+        ensures { Appends 23 row.old (place operand) row.new };
+}
+
+// One space and a place.
+fn push_spaced<T: RowText>(row: &mut Row, operand: OlaOperand)
+    ensures { Appends 24 row.old (spaced_by T.place operand) row.new }
+{
+    row.push(b' ');
+    T::push_place(row, operand);
+}
+
+// One space and an address, as `[op0+op1]`.
+fn push_memory<T: RowText>(row: &mut Row, op0: OlaOperand, op1: OlaOperand)
+    ensures { Appends 50 row.old (bracketed_by T.place T.BETWEEN op0 op1) row.new }
+{
+    row.push(b' ');
+    row.push(b'[');
+    T::push_place(row, op0);
+    row.push(T::BETWEEN);
+    T::push_place(row, op1);
+    row.push(b']');
+}
+
+// Two places, after one space each.
+fn push_two<T: RowText>(row: &mut Row, a: OlaOperand, b: OlaOperand)
+    ensures { Appends 48 row.old (spaced_by T.place a ++ spaced_by T.place b) row.new }
+{
+    push_spaced::<T>(row, a);
+    push_spaced::<T>(row, b);
+}
+
+// The places of a row, in its order.
+fn push_places<T: RowText>(row: &mut Row, places: RowPlaces, instruction: BinaryInstruction)
+    ensures { Appends 74 row.old (placed_by T.place T.BETWEEN places instruction) row.new }
+{
+    let BinaryInstruction { op0, op1, dst, .. } = instruction;
+    match places {
+        RowPlaces::DstOp0Op1 => {
+            push_spaced::<T>(row, dst);
+            push_two::<T>(row, op0, op1);
+        }
+        RowPlaces::DstOp1 => push_two::<T>(row, dst, op1),
+        RowPlaces::DstMemory => {
+            push_spaced::<T>(row, dst);
+            push_memory::<T>(row, op0, op1);
+        }
+        RowPlaces::MemoryDst => {
+            push_memory::<T>(row, op0, op1);
+            push_spaced::<T>(row, dst);
+        }
+        RowPlaces::Op0Op1 => push_two::<T>(row, op0, op1),
+        RowPlaces::Op1 => push_spaced::<T>(row, op1),
+        RowPlaces::Bare => {}
+    }
+}
+
+// Writes the row of an instruction, its mnemonic and its places, at byte `at` where it fits, and says how many bytes; otherwise leaves the text as it is.
+pub fn put_row<T: RowText>(
+    instruction: BinaryInstruction,
+    text: &mut [u8],
+    at: usize,
+) -> Option<usize>
+    ensures { (result ≡ put_count text.old at (row_by T.place T.BETWEEN instruction)) × (text.new ≡ put_into text.old at (row_by T.place T.BETWEEN instruction)) }
+{
+    let mut row = Row {
+        bytes: [0; 82],
+        len: 0,
+    };
+    row.push_mnemonic(instruction.opcode);
+    push_places::<T>(
+        &mut row,
+        vm_tables::row_places(instruction.opcode),
+        instruction,
+    );
+    text_write::put_bytes(text, at, &row.bytes[..row.len])
+}

@@ -1,9 +1,0 @@
--- `put_kept` meets its contract.
-use Prim.Native.Nat.{◌-◌}
-use Rattle.replay_lines.proofs.programs.put_kept.Given as goal
-
-abbrev pub invariant-loop-i : goal.invariant-loop-i
-invariant-loop-i l = Unit {0}
-
-abbrev pub decreases-loop-i : goal.decreases-loop-i
-decreases-loop-i l = l.kept - l.i
