@@ -41,6 +41,13 @@ pub struct Within<'a> {
 pub struct Left {
     pub exit: u8,
 }
+pub struct Wide {
+    pub bytes: [u8; 1 << 3],
+    pub len: usize,
+}
+pub struct Word {
+    pub text: &'static [u8],
+}
 """,
     'crates/made/specs/Maps.antt': """
 use Rattle.std.specs.Prelude.{ℕ, List, length, half}
@@ -185,6 +192,14 @@ place_told None = refused 4 0
 abbrev pub place_lacks : Option ℕ → Answer ℕ
 place_lacks (Some n) = ok n
 """,
+    'crates/made/specs/Half.antt': """
+use Rattle.std.specs.Prelude.{ℕ, Option, None, half as Some}
+use Rattle.made.specs.declared.Kind.TheVariants.{First, Second, Third}
+
+-- `Some` is another name here
+abbrev pub step_some : Step → Halved
+step_some r = record { read = r.read; text = r.text; line = Some r.line }
+""",
     'crates/made/specs/Other.antt': """
 use Rattle.std.specs.Borrow.{Bor}
 
@@ -263,6 +278,26 @@ pub fn counted(x: u8, y: Result<u8, Option<u8>>) -> Result<Option<usize>, Why>
 pub fn somewhere(x: u8) -> Option<usize>
     ensures { result ≡ Some (good x) }
 { x }
+pub fn unit(x: u8) -> ()
+    ensures { result ≡ good x }
+{ }
+pub fn wide(x: u8) -> Wide
+    ensures { (result.bytes ≡ good x) × (result.len ≡ good x) }
+{ x }
+pub trait Told {
+    ghost told: { ℕ → Kind };
+    const K: u8;
+    fn tell(x: u8) -> u8
+        ensures { result ≡ good (told x) };
+    fn put(&self, t: &mut [u8], x: u8) -> [u8; 4]
+        ensures { (result ≡ good (told x)) × (t.new ≡ fine t.old) }
+    { [Self::tell(x); 4] }
+}
+""",
+    'crates/made/src/below/held.rt': """
+pub struct Held<'a> {
+    pub to: &'a mut [u8],
+}
 """,
     'crates/made/src/below/wrong.rt': """
 use made::Read;
@@ -272,8 +307,83 @@ ghost use Rattle.made.specs.Maps.{good, read_told, read_merged, read_line_only, 
 ghost use Rattle.made.specs.Maps.{kind_wild, kind_merged, kind_lacks, kind_unlisted, kind_numerals, kind_alias, kind_hidden, read_literal};
 ghost use Rattle.made.specs.Other.{both_point};
 ghost use Rattle.made.specs.Std.{counted_half, counted_merged, place_told, place_lacks, done_told};
+ghost use Rattle.made.specs.Half.{step_some};
+use below::held::Held;
+use made::below::Wide;
 use made::Left;
 use made::Within;
+trait Wrong: Sized {
+    ghost told: { ℕ };
+    // nothing is said of the result
+    fn said_of_itself(x: u8) -> u8
+        ensures { x ≡ good x };
+    // no equation
+    fn nothing_said(t: &mut [u8])
+        ensures { Good 23 t.old t.new };
+    // nothing is said of t at the exit
+    fn lent_and_unsaid(t: &mut [u8])
+        ensures { 0 ≡ good 0 };
+    // it has a requires
+    fn asks_of_each(x: u8) -> u8
+        requires { x ≤ 3 }
+        ensures { result ≡ good x };
+    // `told` is no name of specs/
+    fn as_told(x: u8) -> [u8; 4]
+        ensures { result ≡ told };
+    // `good` is no name of specs/
+    fn of_its_type<good: Told>(x: u8) -> u8
+        ensures { result ≡ good.told x };
+    // an implication
+    fn with_a_body(x: u8) -> u8
+        ensures { (x ≡ 3) → (result ≡ good x) }
+    { x }
+}
+// what `w: Held<'a>` lends is not read
+pub fn lent_elsewhere<'a>(w: Held<'a>) -> u8
+    ensures { result ≡ good 1 }
+{ 1 }
+// nothing is said of the result
+pub fn unit(x: u8) -> () { }
+// no equation
+pub fn unit_emptily(x: u8) -> ()
+    ensures {}
+{ }
+// the result .len is left unsaid
+pub fn wide_by_half(x: u8) -> Wide
+    ensures { result.bytes ≡ good x }
+{ x }
+// the result .line is left unsaid
+pub fn some_of_another_name(x: u8) -> Step<'a>
+    ensures { step_some result ≡ good x }
+{ x }
+// what `text: &'static [u8]` lends is not read
+pub fn word_of_word(text: &'static [u8]) -> &'static [u8]
+    ensures { result.now ≡ good text.now }
+{ text }
+// what `word: Word` lends is not read
+pub fn word_within(word: Word) -> &'static [u8]
+    ensures { result.now ≡ good word }
+{ word.text }
+impl Word {
+    // what `&self: Word` lends is not read
+    pub fn word_of_itself(&self) -> &'static [u8]
+        ensures { result.now ≡ good self.now }
+    { self.text }
+}
+impl<'a> Lent<'a> {
+    // what `self: Lent` lends is not read
+    pub fn lent_by_itself(self) -> u8
+        ensures { result ≡ good 1 }
+    { 1 }
+    // what `w: Lent` lends is not read
+    pub fn lent_by_another(w: Self) -> u8
+        ensures { result ≡ good 1 }
+    { 1 }
+}
+// what `t: impl T` lends is not read
+pub fn lent_by_any<T: AsMut<[u8]>>(t: T) -> u8
+    ensures { result ≡ good 1 }
+{ 1 }
 // the result .Ok.0 .Some.0 is left unsaid
 pub fn counted_by_half(x: u8) -> Result<Option<usize>, Why>
     ensures { counted_half result ≡ good x }
@@ -495,6 +605,7 @@ pub fn points_only<'a>(text: &'a [u8]) -> &'a [u8]
 { text }
 """,
 }
+ROW = 'pub struct Row { bytes: [u8; 82], len: usize } '
 FILES = [
     ('fn f() { let s = b"//"; } pub default fn g() {}', 'a public function of a form that is not read'),
     ('pub extern "C-unwind" fn f() {} pub async fn g() {}', None),
@@ -503,23 +614,60 @@ FILES = [
     ('trait T { fn f(&self); }', 'a trait'),
     ('impl T for Z { fn f(&self) {} }', 'a trait'),
     ('trait T { fn f(&self) -> u8 ensures { result ≡ good 1 } ; fn g(&self); }', 'a trait'),
-    ('trait T { fn f(&self) -> u8 requires { 0 < 1 } ensures { result ≡ good 1 }; }', 'a trait'),
-    ('pub trait T: Sized { ghost told: { ℕ }; fn f(&self) -> u8 ensures { result ≡ told } { 1 } const K: u8; }', None),
-    ('impl Told for Z { ghost told = { 1 }; const K: u8 = 1; fn f(&self) -> u8 { 1 } }', None),
-    ('impl<T: Told> Told for Z<T> { fn f(&self) -> u8 { 1 } }', None),
-    ('impl Told for Z { fn f(&self) -> u8 ensures { result ≡ good 1 } { 1 } }', 'a trait'),
+    ('trait T { fn f<F: Fn(u8)>(f: F, t: &mut [u8]) ensures { t.new ≡ good 1 }; }', 'a trait'),
+    ('ghost use Rattle.std.specs.Prelude.{ℕ};\npub trait T: Sized { ghost told: { ℕ }; fn f(&self) -> u8 ensures { result ≡ good told } { 1 } const K: u8; }', None),
+    ('trait T<const N: u8 = { 3 }> { fn f(&self); }', 'a trait'),
+    ('unsafe trait T { }', 'a trait'),
+    ('ghost use Rattle.std.specs.Prelude.{ℕ, List};\nghost use Rattle.made.specs.declared.Kind.{Kind};\ntrait T { ghost told: { Kind → List (List ℕ) }; }', None),
+    ('ghost use Rattle.std.specs.Prelude.{ℕ};\ntrait T { ghost told: { ℕ }; ghost law: { told ≡ 1 }; }', 'a trait'),
+    ('trait T { ghost use Rattle.std.specs.Prelude.{half as good}; fn f() -> u8 ensures { result ≡ good 1 }; }', 'a trait'),
+    ('ghost use Rattle.made.specs.Laws.{Law};\ntrait T { ghost law: { Law }; }', 'a trait'),
+    ('ghost use Rattle.made.specs.Laws.{Law as List};\ntrait T { ghost law: { List }; }', 'a trait'),
+    ('ghost use Rattle.std.specs.Prelude.{ℕ};\nghost use Rattle.made.specs.Maps.{good};\ntrait T { ghost good: { ℕ → ℕ }; }', 'a trait'),
+    ('use made::Told;\nimpl Told for Z { ghost told = { 1 }; const K: u8 = 1; fn f(&self) -> u8 { 1 } }', None),
+    ('use made::Told;\nimpl<T: Told> Told for Z<T> { fn f(&self) -> u8 { 1 } }', None),
+    ('use made::Told;\nimpl Told for Z { fn f(&self) -> u8 ensures { result ≡ good 1 } { 1 } }', 'a trait'),
+    ('use made::Told;\nimpl Told for Z<{ N }> { fn f(&self) -> u8 requires { 0 ≡ 1 } { 1 } }', 'a trait'),
+    ('use made::Told;\nimpl<\'a> Told for Within<\'a> { }', 'a trait'),
+    ('use made::Told;\nunsafe impl Told for Z { }', 'a trait'),
+    ('use made::Told;\nimpl<T: AsMut<[u8]>> Told for Z<T> { }', 'a trait'),
+    ('impl Told for Z { }', 'a trait'),
+    ('use other::Told;\nimpl Told for Z { }', 'a trait'),
+    ('use std::marker::Told;\nimpl Told for Z { }', 'a trait'),
     ('impl From<A> for B { fn from(a: A) -> B { B } }', 'a trait'),
-    ('impl Model for Z { ghost view = { λ r. r.at }; ghost invariant = { λ r. r.at ≤ 1 }; }', None),
+    ('unsafe impl Send for Z {}', 'a trait'),
+    ('impl Mark for Z { ghost view = { 1 }; }', 'a trait'),
+    (ROW + 'impl Model for Row { ghost Value = { ℕ }; ghost view = { λ r. take r.len r.bytes }; ghost invariant = { λ r. r.len ≤ 82 }; }', None),
+    (ROW.replace('len', 'pub len') + 'impl Model for Row { ghost Value = { ℕ }; ghost view = { λ r. take r.len r.bytes }; }', 'a trait'),
+    (ROW + 'impl Model for Row { ghost Value = { ℕ }; ghost view = { λ r. r.bytes }; }', 'a trait'),
+    (ROW.replace('Row', 'Row<T>') + 'impl<T> Model for Row<T> { ghost Value = { ℕ }; ghost view = { λ r. take r.len r.bytes }; }', 'a trait'),
+    (ROW + 'impl Model for Row { ghost Value = { ℕ }; ghost view = { λ r. take s.len r.bytes }; }', 'a trait'),
+    (ROW + 'impl Model for Row { ghost Value = { ℕ }; ghost view = { items }; }', 'a trait'),
+    (ROW + 'impl Model for Row { ghost Value = { ℕ }; ghost view = { λ r. take r.len r.bytes }; ghost also_owns = { λ r. r.len }; }', 'a trait'),
+    (ROW + 'impl Model for Row { ghost Value = { ℕ }; ghost view = { λ r. (λ r. r.len) r.bytes }; }', 'a trait'),
+    ('pub struct Row { } impl Model for Row { ghost Value = { ℕ }; ghost view = { λ r. 0 }; ghost invariant = { λ r. 0 ≡ 1 }; }', 'a trait'),
+    (ROW + ROW + 'impl Model for Row { ghost Value = { ℕ }; ghost view = { λ r. take r.len r.bytes }; }', 'a trait'),
+    ('pub struct Z { n: u64 } impl Model for Z { ghost Value = { ℕ }; ghost view = { λ z. z.n }; }', 'a trait'),
+    ('pub struct Z { pub n: u64 } impl Model for Z { ghost Value = { ℕ }; ghost view = { λ z. z.n }; ghost invariant = { λ z. z.n ≤ 1 }; }', 'a trait'),
+    ('pub struct Z { n: u64 } impl Model for Z { ghost Value = { ℕ }; ghost view = { λ z. 0 }; }', 'a trait'),
     ('#[unsafe(no_mangle)]\nextern "C" fn f() {}', 'an export that is not pub'),
     ('#[unsafe(no_mangle)]\npub extern "C" fn f() {}', None),
     ('#[derive(Clone, Copy)]\npub struct S { }', None),
     ('macro_rules! m { () => { pub fn f() {} } }', 'a macro'),
     ('/* */ pub fn f() {}', 'a block comment'),
     ('pub default fn f() {}', 'a public function of a form that is not read'),
+    ('pub fn f<F: Fn(u8)>(f: F, t: &mut [u8]) {}', 'a public function of a form that is not read'),
+    ('use other::Lent as Left;', 'a type has another name'),
+    ('use other::*;', 'a type has another name'),
+    ('pub enum Option<A> { Some(A), None, Third }', 'a type has another name'),
+    ('pub struct S<\'a, \'b: \'static> { text: &\'b [u8] }', 'a lifetime has another name'),
+    ('pub struct S { pub n: u8, ghost small: { n ≤ 1 } }', 'a ghost field'),
+    ('impl S { ghost use Rattle.std.specs.Prelude.{half as good}; }', 'an import within a block'),
 ]
 
-MADE_UP_MAPS = {f'made.{module}.{name}' for module in ('Maps', 'Other', 'Std') for name in re.findall(r'abbrev pub (\w+)', MADE_UP[f'crates/made/specs/{module}.antt'])}
+MADE_UP_MAPS = {f'made.{module}.{name}' for module in ('Maps', 'Other', 'Std', 'Half') for name in re.findall(r'abbrev pub (\w+)', MADE_UP[f'crates/made/specs/{module}.antt'])}
 MADE_UP_MAPS -= {'made.Maps.kind_unlisted'}
+MADE_UP_MODELS = {('made', 'Row')}
 
 SHARED = {
     'crates/shared/src/lib.rt': """

@@ -1,5 +1,5 @@
 -- Laws of printing what assembling answered, and of printing a source, in the shapes in which the functions ask for them.
-use Rattle.std.specs.Prelude.{Option, Some, Result, Ok, Err}
+use Rattle.std.specs.Prelude.{Result, Ok, Err}
 use Prim.Native.Nat.{ℕ, ◌<◌, ◌≤◌}
 use mathlib.Core.Path.{◌≡◌, refl, sym, ap, ◌∙◌}
 use mathlib.Core.List.{List, [], ◌++◌}
@@ -18,6 +18,7 @@ use Rattle.encoder.specs.Printing.{reported, printing, printing_room}
 use Rattle.encoder.specs.declared.AssembleRefusal.{AssembleRefusal}
 use Rattle.encoder.specs.declared.Totals.{Totals}
 use Rattle.encoder_report.specs.Printed.{printed_numbered, printed_count, printed_into, reported_words}
+use Rattle.program.specs.declared.WriteRefusal.{WriteRefusal}
 use Rattle.encoder_print.specs.Reported.{word_count, reported_assembly}
 
 -- ---- print_assembly: d is the text
@@ -27,7 +28,7 @@ module _ (found : Result Totals AssembleRefusal) (words d : List ℕ) where
     refused_report_lem : reported (refused n m) ≡ reported_assembly found words
     refused_report_lem = rw (e, f, g)
 
-    pub refused_counted : (r : Option ℕ) → printed_numbered r ≡ printed_count (length d) (reported (refused n m)) → printed_numbered r ≡ printed_count (length d) (reported_assembly found words)
+    pub refused_counted : (r : Result ℕ WriteRefusal) → printed_numbered r ≡ printed_count (length d) (reported (refused n m)) → printed_numbered r ≡ printed_count (length d) (reported_assembly found words)
     refused_counted r h = h ∙ ap (printed_count (length d)) refused_report_lem
 
     pub refused_printed : (b : List ℕ) → b ≡ printed_into (reported (refused n m)) d → b ≡ printed_into (reported_assembly found words) d
@@ -40,7 +41,7 @@ module _ (found : Result Totals AssembleRefusal) (words d : List ℕ) where
     pub accepted_part : word_count found ≤ length words → totals.words ≡ length (take totals.words words)
     accepted_part h = sym (length-take-le totals.words words (rw e at h))
 
-    pub accepted_counted : (r : Option ℕ) → printed_numbered r ≡ printed_count (length d) (reported_words (take totals.words words)) → printed_numbered r ≡ printed_count (length d) (reported_assembly found words)
+    pub accepted_counted : (r : Result ℕ WriteRefusal) → printed_numbered r ≡ printed_count (length d) (reported_words (take totals.words words)) → printed_numbered r ≡ printed_count (length d) (reported_assembly found words)
     accepted_counted r h = h ∙ ap (printed_count (length d)) accepted_report
 
     pub accepted_printed : (b : List ℕ) → b ≡ printed_into (reported_words (take totals.words words)) d → b ≡ printed_into (reported_assembly found words) d
@@ -86,7 +87,7 @@ module _ (s d : List ℕ) where
     unfolding printing
     long_report = rw (lt-ltb 4096 (length s) h)
 
-    pub long_counted : (r : Option ℕ) → printed_numbered r ≡ printed_count (length d) (reported (refused 1 0)) → printed_numbered r ≡ printed_count (length d) (printing s)
+    pub long_counted : (r : Result ℕ WriteRefusal) → printed_numbered r ≡ printed_count (length d) (reported (refused 1 0)) → printed_numbered r ≡ printed_count (length d) (printing s)
     long_counted r e = e ∙ ap (printed_count (length d)) (sym long_report)
 
     pub long_printed : (b : List ℕ) → b ≡ printed_into (reported (refused 1 0)) d → b ≡ printed_into (printing s) d
@@ -105,7 +106,7 @@ module _ (s : List ℕ) (room : Room) (found : Result Totals AssembleRefusal) (w
     source_report = ap (reported_assembly found) k ∙ report_same found (assembled s [] room) words e ∙ ap (λ (r : Room). reported (assembled s [] r)) g ∙ sym (rw (le-ltb 4096 (length s) h))
 
     -- so what is printed of the answer and of what is left is printed of the source
-    pub source_printed : (r : Option ℕ) (b : List ℕ)
+    pub source_printed : (r : Result ℕ WriteRefusal) (b : List ℕ)
         → (printed_numbered r ≡ printed_count (length d) (reported_assembly found left)) × (b ≡ printed_into (reported_assembly found left) d)
         → (printed_numbered r ≡ printed_count (length d) (printing s)) × (b ≡ printed_into (printing s) d)
     source_printed r b f = (f.0 ∙ ap (printed_count (length d)) source_report, f.1 ∙ ap (λ (w : List ℕ). printed_into w d) source_report)
@@ -113,7 +114,7 @@ module _ (s : List ℕ) (room : Room) (found : Result Totals AssembleRefusal) (w
 pub ruleset long_laws = (long_counted, long_printed, rules)
 
 -- for a caller: what was printed lies within the room for it
-pub printed_within : (room : ℕ) (w : List ℕ) (r : Option ℕ) (n : ℕ) → printed_numbered r ≡ printed_count room w → r ≡ Some n → n ≤ room
+pub printed_within : (room : ℕ) (w : List ℕ) (r : Result ℕ WriteRefusal) (n : ℕ) → printed_numbered r ≡ printed_count room w → r ≡ Ok n → n ≤ room
 unfolding printed_count
 printed_within room w r n e f = go (ltb room (length w)) refl (ap printed_numbered (sym f) ∙ e)
   where

@@ -7,13 +7,14 @@ ghost use Rattle.encoder_report.specs.Printed.{printed_numbered, printed_count, 
 ghost use Rattle.encoder_print.specs.Reported.{word_count, reported_assembly};
 
 use encoder::{AssembleRefusal, Totals};
+use program::WriteRefusal;
 
 // Prints the report of what assembling answered, where these are the words that it left.
 fn print_assembly(
     found: Result<Totals, AssembleRefusal>,
     words: &[u64],
     text: &mut [u8],
-) -> Option<usize>
+) -> Result<usize, WriteRefusal>
     requires { word_count found ≤ length words.now }
     ensures result_value { printed_numbered result ≡ printed_count (length text.old) (reported_assembly found words.now) }
     ensures text_after { text.new ≡ printed_into (reported_assembly found words.now) text.old }
@@ -29,7 +30,7 @@ fn print_assembly(
 }
 
 // Prints what the printing program prints for a source, or leaves the text as it is where it is too short.
-pub fn print_source(source: &[u8], text: &mut [u8]) -> Option<usize>
+pub fn print_source(source: &[u8], text: &mut [u8]) -> Result<usize, WriteRefusal>
     ensures result_value { printed_numbered result ≡ printed_count (length text.old) (printing source.now) }
     ensures text_after { text.new ≡ printed_into (printing source.now) text.old }
 {

@@ -1,5 +1,5 @@
 -- Laws of the writers of rows and reports, in the shapes in which the functions ask for them.
-use Rattle.std.specs.Prelude.{Option, Some, None}
+use Rattle.std.specs.Prelude.{Option, Some, None, Result, Ok, Err}
 use Prim.Native.Nat.{ℕ, suc, ◌+◌, ◌-◌, ◌*◌, ◌^◌, ◌<◌, ◌≤◌}
 use mathlib.Core.Path.{◌≡◌, refl, sym, ap, ◌∙◌}
 use mathlib.Core.List.{List, [], ◌∷◌, ◌++◌}
@@ -15,12 +15,15 @@ use lib.Seq.{sets, length-sets, length-take-le}
 use mir.Val.{Fits}
 use mir.Syntax.{w64}
 use Rattle.text.proofs.AnswerLaws.{sets_over}
+use Rattle.std.specs.Option.{ok_or}
 use Rattle.text.specs.Bytes.{bytes}
 use Rattle.text.specs.Answer.{ok, refused}
 use Rattle.text.proofs.Laws.{drop_next, told_not_true, told_not_false}
 use Rattle.text_write.specs.Digits.{decimal_text}
 use Rattle.text_write.specs.Put.{put_count, put_into}
 use Rattle.text_write.proofs.Laws.{sets_append, put_fits, put_over, put_row, length_put, count_told, fits_told, over_told, decimal_most}
+use Rattle.program.specs.declared.WriteRefusal.{WriteRefusal}
+use Rattle.program.specs.declared.WriteRefusal.TheVariants.{TextTooShort}
 use Rattle.program_bytecode.specs.Left.{line_text, asks_number}
 use Rattle.program_bytecode.proofs.Laws.{line_most}
 use Rattle.encoder.specs.Printing.{two_fields, reported}
@@ -198,13 +201,13 @@ module _ (d s : List ℕ) (t : Bool) (e : t ≡ leb (13 + length (rows_left 0 fa
   words_fit : not t ≡ false → length (reported_words s) ≤ length d
   words_fit h = let z = reported_long s in let y = leb-true (13 + length (rows_left 0 false s)) (length d) (told_not_false t _ e h) in omega arith
 
-  pub words_short : not t ≡ true → printed_numbered None ≡ printed_count (length d) (reported_words s)
+  pub words_short : not t ≡ true → printed_numbered (Err TextTooShort) ≡ printed_count (length d) (reported_words s)
   words_short h = short_count d (reported_words s) (words_over h)
 
   pub words_kept : not t ≡ true → d ≡ printed_into (reported_words s) d
   words_kept h = short_kept d (reported_words s) (words_over h)
 
-  pub words_counted : (n : ℕ) → not t ≡ false → n ≡ 13 + length (rows_left 0 false s) → printed_numbered (Some n) ≡ printed_count (length d) (reported_words s)
+  pub words_counted : (n : ℕ) → not t ≡ false → n ≡ 13 + length (rows_left 0 false s) → printed_numbered (Ok n) ≡ printed_count (length d) (reported_words s)
   words_counted n h f = ap ok (f ∙ sym (reported_long s)) ∙ room_count d (reported_words s) (words_fit h)
 
   module _ (u : List ℕ) (f : u ≡ put_into d 0 (two_fields (bytes "address") (bytes "word"))) where
@@ -262,9 +265,12 @@ module _ (n m k : ℕ) (u : List ℕ) (h : n < 2 ^ 64) (l : m < 2 ^ 64) (e : k �
       ap (λ (j : ℕ). take j u) (e ∙ sym (zero-add (length (reported (refused n m))))) ∙ put_row c 0 (reported (refused n m)) (omega arith) u (g ∙ sym w)
 
 module _ (d w v : List ℕ) (e : v ≡ w) where
-  pub put_printed : (r : Option ℕ) → r ≡ put_count d 0 v → printed_numbered r ≡ printed_count (length d) w
-  put_printed (Some n) f = let k = fits_told d 0 v (Some n) f n refl in ap ok (count_told d 0 v (Some n) f n refl ∙ ap length e) ∙ room_count d w (let z = ap length e in omega arith)
-  put_printed None f = let k = over_told d 0 v None f refl in short_count d w (let z = ap length e in omega arith)
+  put_answer : (r : Option ℕ) → r ≡ put_count d 0 v → printed_numbered (ok_or r TextTooShort) ≡ printed_count (length d) w
+  put_answer (Some n) f = let k = fits_told d 0 v (Some n) f n refl in ap ok (count_told d 0 v (Some n) f n refl ∙ ap length e) ∙ room_count d w (let z = ap length e in omega arith)
+  put_answer None f = let k = over_told d 0 v None f refl in short_count d w (let z = ap length e in omega arith)
+
+  pub put_printed : (r : Option ℕ) → r ≡ put_count d 0 v → (q : Result ℕ WriteRefusal) → q ≡ ok_or r TextTooShort → printed_numbered q ≡ printed_count (length d) w
+  put_printed r f q g = ap printed_numbered g ∙ put_answer r f
 
   pub put_stored : (r : Option ℕ) → r ≡ put_count d 0 v → (b : List ℕ) → b ≡ put_into d 0 v → b ≡ printed_into w d
   put_stored (Some n) f b g = let k = fits_told d 0 v (Some n) f n refl in g ∙ put_fits d 0 v k ∙ ap (sets d 0) e ∙ room_stored d w (let z = ap length e in omega arith)

@@ -1,14 +1,16 @@
 -- What printing a report answers, and what it leaves in the text that it was lent.
-use Rattle.std.specs.Prelude.{ℕ, List, ◌++◌, cond, ltb, length, Option, Some, None}
+use Rattle.std.specs.Prelude.{ℕ, List, ◌++◌, cond, ltb, length, Result, Ok, Err}
 use Rattle.text.specs.Bytes.{bytes}
 use Rattle.text.specs.Answer.{Answer, ok, refused, over}
 use Rattle.program.specs.Bytecode.{word_lines}
+use Rattle.program.specs.declared.WriteRefusal.{WriteRefusal}
+use Rattle.program.specs.declared.WriteRefusal.TheVariants.{TextTooShort}
 use Rattle.encoder.specs.Printing.{two_fields, numbered_lines}
 
 -- the count of bytes, or "23 the lent text is too short"
-abbrev pub printed_numbered : Option ℕ → Answer ℕ
-printed_numbered (Some n) = ok n
-printed_numbered None = refused 23 0
+abbrev pub printed_numbered : Result ℕ WriteRefusal → Answer ℕ
+printed_numbered (Ok n) = ok n
+printed_numbered (Err TextTooShort) = refused 23 0
 
 -- the answer for a report and a text of so many bytes
 unfoldable pub printed_count : ℕ → List ℕ → Answer ℕ

@@ -10,6 +10,8 @@ ghost use Rattle.encoder.specs.Printing.{reported, two_fields};
 ghost use Rattle.encoder_report.specs.Left.{field_text, row_text, rows_left};
 ghost use Rattle.encoder_report.specs.Printed.{printed_numbered, printed_count, printed_into, reported_words};
 
+use program::WriteRefusal;
+
 // The lines of names.
 const WORDS_HEAD: [u8; 13] = *b"address word\n";
 
@@ -95,15 +97,15 @@ fn write_rows(words: &[u64], text: &mut [u8], start: usize) -> usize
 }
 
 // Prints the report of an accepted source with these words, or leaves the text as it is where it is too short.
-pub fn print_words(words: &[u64], text: &mut [u8]) -> Option<usize>
+pub fn print_words(words: &[u64], text: &mut [u8]) -> Result<usize, WriteRefusal>
     ensures result_value { printed_numbered result ≡ printed_count (length text.old) (reported_words words.now) }
     ensures text_after { text.new ≡ printed_into (reported_words words.now) text.old }
 {
     if !rows_fit(words, WORDS_HEAD.len(), text.len()) {
-        return None;
+        return Err(WriteRefusal::TextTooShort);
     }
     text_write::put_bytes(text, 0, &WORDS_HEAD);
-    Some(write_rows(words, text, WORDS_HEAD.len()))
+    Ok(write_rows(words, text, WORDS_HEAD.len()))
 }
 
 // Writes the report of a refusal where it fits, and says how many bytes it has.
@@ -116,11 +118,11 @@ fn write_refusal(number: u64, detail: u64, text: &mut [u8]) -> usize
 }
 
 // Prints the report of a refusal, or leaves the text as it is where it is too short.
-pub fn print_refusal(number: u64, detail: u64, text: &mut [u8]) -> Option<usize>
+pub fn print_refusal(number: u64, detail: u64, text: &mut [u8]) -> Result<usize, WriteRefusal>
     ensures result_value { printed_numbered result ≡ printed_count (length text.old) (reported (refused number detail)) }
     ensures text_after { text.new ≡ printed_into (reported (refused number detail)) text.old }
 {
     let mut report = [0u8; 57];
     let n = write_refusal(number, detail, &mut report);
-    text_write::put_bytes(text, 0, &report[..n])
+    text_write::put_bytes(text, 0, &report[..n]).ok_or(WriteRefusal::TextTooShort)
 }

@@ -10,7 +10,7 @@ fn main(rt: HostRuntime) -> io::Result<()> {
     let mut text = [0u8; 65536];
     let printed = encoder_print::print_source(&source[..n], &mut text);
     match printed {
-        Some(m) => rt.write_all(&text[..m]),
-        None => Ok(()),
+        Ok(m) => rt.write_all(&text[..m]),
+        Err(program::WriteRefusal::TextTooShort) => Ok(()),
     }
 }

@@ -1,3 +1,4 @@
 pub mod RowLaws
 pub mod Places
 pub mod Laws
+pub mod Pieces

@@ -1,8 +1,8 @@
--- A row put together: a put behind it, one text behind another, and how long they are.
-use Rattle.std.specs.Prelude.{Option}
+-- A row put together: a put behind it, some texts behind it, and that they are the row of an instruction.
+use Rattle.std.specs.Prelude.{Option, Some, ◌^◌}
 use Prim.Native.Nat.{ℕ, ◌+◌, ◌<◌, ◌≤◌}
-use mathlib.Core.Path.{◌≡◌, refl, sym, ap, ◌∙◌}
-use mathlib.Core.List.{List, [], ◌∷◌, ◌++◌, append_assoc}
+use mathlib.Core.Path.{◌≡◌, refl, sym, ap, ap₂, ◌∙◌}
+use mathlib.Core.List.{List, [], ◌∷◌, ◌++◌, append-nil, append_assoc}
 use mathlib.Core.Bool.{Bool, true, false}
 use native.Mathlib.Omega.{arith}
 use native.Mathlib.Nat.{add-zero}
@@ -14,12 +14,16 @@ use lib.ListN.{length, take, set, length-append}
 use lib.Seq.{length-take-le, take-suc-set}
 use mir.Val.{Fits}
 use mir.Syntax.{w64}
+use Rattle.std.specs.List.{concat}
 use Rattle.std.specs.Option.{unwrap_or}
+use Rattle.std.proofs.lemmas.List.Folds.{concat-append}
+use Rattle.text.specs.Bytes.{bytes}
 use Rattle.text_write.specs.Put.{put_count, put_into}
 use Rattle.text_write.proofs.Laws.{put_row, put_over, count_over}
 use Rattle.vm_opcodes.specs.Operations.{operations, row_places}
 use Rattle.vm_opcodes.specs.declared.OlaOpcode.{OlaOpcode}
 use Rattle.vm_opcodes.specs.declared.RowPlaces.{RowPlaces}
+use Rattle.vm_opcodes.specs.declared.RowPlaces.TheVariants.{DstOp0Op1, DstOp1, DstMemory, MemoryDst, Op0Op1, Op1, Bare}
 use Rattle.vm_opcodes.proofs.Laws.{agree}
 use Rattle.vm_mnemonics.specs.Mnemonics.{mnemonic}
 use Rattle.vm_hardware.specs.Registers.{register_text, special_text}
@@ -27,9 +31,10 @@ use Rattle.vm_hardware.specs.declared.OlaRegister.{OlaRegister}
 use Rattle.vm_hardware.specs.declared.OlaSpecialRegister.{OlaSpecialRegister}
 use Rattle.vm_hardware.specs.declared.OlaSpecialRegister.TheVariants.{PC, PSP}
 use Rattle.vm_operands.specs.declared.OlaOperand.{OlaOperand}
+use Rattle.program.specs.Instructions.{carried}
 use Rattle.program.specs.declared.BinaryInstruction.{BinaryInstruction}
 use Rattle.program_bytecode.proofs.Laws.{put_long}
-use Rattle.program_listing.specs.Places.{row_with, Appends, placed_by, row_by}
+use Rattle.program_listing.specs.Places.{row_with, row_with_all, as_text, as_piece, spaced_by, bracketed_by, placed_by, row_by}
 
 -- ---- a text behind a row: one that fits, and one that does not
 module _ (row w : List ℕ) where
@@ -89,24 +94,23 @@ end_fits n h = omega arith
 
 pub ruleset put_laws = (put_within, put_pushed, byte_pushed, byte_over, end_fits, rules)
 
--- ---- one text behind another
+-- ---- some texts behind a row
 
--- a text pushed
-pub pushed : {x y u : List ℕ} (k : ℕ) → y ≡ row_with x u → length u ≤ k → Appends k x u y
-pushed {x} {y} {u} k e h = record { most = h; appended = λ l. e ∙ with_fits x u l }
+-- some, and others behind them
+pub with_both : (row : List ℕ) (us vs : List (List ℕ)) → row_with_all row (us ++ vs) ≡ row_with_all (row_with_all row us) vs
+with_both row [] vs = refl
+with_both row (u ∷ us) vs = with_both (row_with row u) us vs
 
--- no more bytes than more
-pub at_most : {x y u : List ℕ} {j : ℕ} (k : ℕ) → Appends j x u y → j ≤ k → Appends k x u y
-at_most k a h = record { most = omega (arith, a.most); appended = a.appended }
+pub both_behind : (x y z : List ℕ) (us vs : List (List ℕ)) → y ≡ row_with_all x us → z ≡ row_with_all y vs → z ≡ row_with_all x (us ++ vs)
+both_behind x y z us vs e f = f ∙ ap (λ (r : List ℕ). row_with_all r vs) e ∙ sym (with_both x us vs)
 
--- two texts
-pub both : {x y z u v : List ℕ} {j k : ℕ} → Appends j x u y → Appends k y v z → Appends (j + k) x (u ++ v) z
-both {x} {y} {z} {u} {v} a b =
-    let n = length-append u v in
-    record {
-      most = omega (arith, a.most, b.most);
-      appended = λ l. let e = a.appended (omega arith) in let m = ap length e ∙ length-append x u in b.appended (omega arith) ∙ ap (λ (s : List ℕ). s ++ v) e ∙ append_assoc x u v;
-    }
+-- all of them, where they fit
+all_fit : (row : List ℕ) (ws : List (List ℕ)) → length row + length (concat ws) ≤ 82 → row_with_all row ws ≡ row ++ concat ws
+all_fit row [] h = sym (append-nil row)
+all_fit row (w ∷ ws) h =
+    let m = length-append w (concat ws) in
+    let n = length-append row w in
+    ap (λ (r : List ℕ). row_with_all r ws) (with_fits row w (omega arith)) ∙ all_fit (row ++ w) ws (omega arith) ∙ append_assoc row w (concat ws)
 
 -- ---- how long the parts of a row are
 
@@ -124,10 +128,72 @@ pub mnemonic_most : (o : OlaOpcode) → length (mnemonic o) ≤ 8
 unfolding operations
 mnemonic_most o = leb-true _ _ (agree (λ q. true) (λ q. leb (length (mnemonic q)) 8) true refl o)
 
--- ---- the mnemonic and the places of an instruction are its row, which is put
-module _ (place : OlaOperand → List ℕ) (between : ℕ) (i : BinaryInstruction) (p : RowPlaces) (x y z : List ℕ) where
-  pub row_made : x ≡ row_with [] (mnemonic i.opcode) → p ≡ row_places i.opcode → Appends 74 x (placed_by place between p i) y → z ≡ y → z ≡ row_by place between i
-  row_made e f a g =
-      let b = both (pushed 8 e (mnemonic_most i.opcode)) a in
-      let m = b.most in
-      g ∙ b.appended (omega arith) ∙ ap (λ (q : RowPlaces). mnemonic i.opcode ++ placed_by place between q i) f
+-- ---- texts that make one
+
+-- some texts, one behind the other, are w, which has at most k bytes
+pub record Makes (k : ℕ) (ws : List (List ℕ)) (w : List ℕ) : Type 0 where
+  pub joined : concat ws ≡ w
+  pub most : length w ≤ k
+
+-- the number, offset or factor that a content carries has 64 bits
+abbrev pub NumberFits : OlaOperand → Type 0
+NumberFits o = (n : ℕ) → carried o ≡ Some n → n < 2 ^ 64
+
+-- and so have those of all three places
+pub record NumbersFit (i : BinaryInstruction) : Type 0 where
+  pub op0 : NumberFits i.op0
+  pub op1 : NumberFits i.op1
+  pub dst : NumberFits i.dst
+
+-- a text by itself
+pub one_makes : (k : ℕ) (w : List ℕ) → length w ≤ k → Makes k (w ∷ []) w
+one_makes k w h = record { joined = append-nil w; most = h }
+
+-- no more bytes than more
+pub at_most : {ws : List (List ℕ)} {w : List ℕ} {j : ℕ} (k : ℕ) → Makes j ws w → j ≤ k → Makes k ws w
+at_most k a h = record { joined = a.joined; most = omega (arith, a.most) }
+
+-- two texts
+pub both_make : {us vs : List (List ℕ)} {u v : List ℕ} {j k : ℕ} → Makes j us u → Makes k vs v → Makes (j + k) (us ++ vs) (u ++ v)
+both_make {us} {vs} {u} {v} a b =
+    let n = length-append u v in
+    record {
+      joined = concat-append us vs ∙ ap₂ (λ (x y : List ℕ). x ++ y) a.joined b.joined;
+      most = omega (arith, a.most, b.most);
+    }
+
+-- ---- the row of an instruction
+
+-- as it is pushed
+module _ (pieces : OlaOperand → List (List ℕ)) (between : ℕ) (i : BinaryInstruction) (p : RowPlaces) (x y z : List ℕ) where
+  pub row_made : x ≡ row_with [] (mnemonic i.opcode) → p ≡ row_places i.opcode → y ≡ row_with_all x (placed_by as_piece pieces between p i) → z ≡ y → z ≡ row_by pieces between i
+  row_made e f a g = g ∙ a ∙ ap₂ (λ (r : List ℕ) (q : RowPlaces). row_with_all r (placed_by as_piece pieces between q i)) e f
+
+-- nothing of it is left out: the mnemonic and the texts of its places, which have room
+module _ (place : OlaOperand → List ℕ) (pieces : OlaOperand → List (List ℕ)) (between : ℕ) (whole : (o : OlaOperand) → NumberFits o → Makes 23 (pieces o) (place o)) where
+  spaced_makes : (o : OlaOperand) → NumberFits o → Makes 24 (spaced_by as_piece pieces o) (spaced_by as_text place o)
+  spaced_makes o h = both_make (one_makes 1 (bytes " ") (lit≤ tt)) (whole o h)
+
+  bracketed_makes : (a b : OlaOperand) → NumberFits a → NumberFits b → Makes 50 (bracketed_by as_piece pieces between a b) (bracketed_by as_text place between a b)
+  bracketed_makes a b h k =
+      both_make (one_makes 1 (bytes " ") (lit≤ tt))
+      (both_make (one_makes 1 (bytes "[") (lit≤ tt))
+      (both_make (whole a h)
+      (both_make (one_makes 1 (between ∷ []) (lit≤ tt))
+      (both_make (whole b k) (one_makes 1 (bytes "]") (lit≤ tt))))))
+
+  module _ (i : BinaryInstruction) (fits : NumbersFit i) where
+    placed_makes : (p : RowPlaces) → Makes 74 (placed_by as_piece pieces between p i) (placed_by as_text place between p i)
+    placed_makes DstOp0Op1 = at_most 74 (both_make (spaced_makes i.dst fits.dst) (both_make (spaced_makes i.op0 fits.op0) (spaced_makes i.op1 fits.op1))) (lit≤ tt)
+    placed_makes DstOp1 = at_most 74 (both_make (spaced_makes i.dst fits.dst) (spaced_makes i.op1 fits.op1)) (lit≤ tt)
+    placed_makes DstMemory = both_make (spaced_makes i.dst fits.dst) (bracketed_makes i.op0 i.op1 fits.op0 fits.op1)
+    placed_makes MemoryDst = both_make (bracketed_makes i.op0 i.op1 fits.op0 fits.op1) (spaced_makes i.dst fits.dst)
+    placed_makes Op0Op1 = at_most 74 (both_make (spaced_makes i.op0 fits.op0) (spaced_makes i.op1 fits.op1)) (lit≤ tt)
+    placed_makes Op1 = at_most 74 (spaced_makes i.op1 fits.op1) (lit≤ tt)
+    placed_makes Bare = record { joined = refl; most = lit≤ tt }
+
+    pub row_whole : row_by pieces between i ≡ mnemonic i.opcode ++ placed_by as_text place between (row_places i.opcode) i
+    row_whole =
+        let m = both_make (one_makes 8 (mnemonic i.opcode) (mnemonic_most i.opcode)) (placed_makes (row_places i.opcode)) in
+        let n = m.most in
+        all_fit [] (mnemonic i.opcode ∷ placed_by as_piece pieces between (row_places i.opcode) i) (rw m.joined (omega arith)) ∙ m.joined

@@ -1,6 +1,6 @@
--- A row as it is put together: a text behind it, and the places of an instruction. `place` says what stands in a place, `between` what stands
+-- A row as it is put together: the texts behind it, and the places of an instruction. `place` says what stands in a place, `between` what stands
 -- between the two places of an address.
-use Rattle.std.specs.Prelude.{◌≡◌, ℕ, ◌+◌, ◌≤◌, List, [], ◌∷◌, ◌++◌, cond, leb, length}
+use Rattle.std.specs.Prelude.{ℕ, ◌+◌, List, [], ◌∷◌, ◌++◌, cond, leb, length}
 use Rattle.text.specs.Bytes.{bytes}
 use Rattle.vm_opcodes.specs.Operations.{row_places}
 use Rattle.vm_opcodes.specs.declared.RowPlaces.{RowPlaces}
@@ -13,23 +13,30 @@ use Rattle.program.specs.declared.BinaryInstruction.{BinaryInstruction}
 unfoldable pub row_with : List ℕ → List ℕ → List ℕ
 row_with row w = cond (leb (length row + length w) 82) (row ++ w) row
 
--- the text has at most k bytes, and the row has it behind it if there is room
-pub record Appends (k : ℕ) (row w after : List ℕ) : Type 0 where
-  pub most : length w ≤ k
-  pub appended : length row + length w ≤ 82 → after ≡ row ++ w
+-- the row with some texts behind it, one by one, each where it has room for all of it
+abbrev pub row_with_all : List ℕ → List (List ℕ) → List ℕ
+row_with_all row [] = row
+row_with_all row (w ∷ ws) = row_with_all (row_with row w) ws
 
-module _ (place : OlaOperand → List ℕ) where
+-- places are told as one text, or as the texts that are pushed for them, its pieces: what a text is there
+abbrev pub as_text : List ℕ → List ℕ
+as_text w = w
+
+abbrev pub as_piece : List ℕ → List (List ℕ)
+as_piece w = w ∷ []
+
+module _ {A : Type 0} (told : List ℕ → List A) (place : OlaOperand → List A) where
   -- "after one space each"
-  abbrev pub spaced_by : OlaOperand → List ℕ
-  spaced_by o = bytes " " ++ place o
+  abbrev pub spaced_by : OlaOperand → List A
+  spaced_by o = told (bytes " ") ++ place o
 
   module _ (between : ℕ) where
     -- an address, after one space
-    abbrev pub bracketed_by : OlaOperand → OlaOperand → List ℕ
-    bracketed_by op0 op1 = bytes " [" ++ (place op0 ++ ((between ∷ []) ++ (place op1 ++ bytes "]")))
+    abbrev pub bracketed_by : OlaOperand → OlaOperand → List A
+    bracketed_by op0 op1 = told (bytes " ") ++ (told (bytes "[") ++ (place op0 ++ (told (between ∷ []) ++ (place op1 ++ told (bytes "]")))))
 
     -- the places of a row, in its order
-    abbrev pub placed_by : RowPlaces → BinaryInstruction → List ℕ
+    abbrev pub placed_by : RowPlaces → BinaryInstruction → List A
     placed_by DstOp0Op1 i = spaced_by i.dst ++ (spaced_by i.op0 ++ spaced_by i.op1)
     placed_by DstOp1 i = spaced_by i.dst ++ spaced_by i.op1
     placed_by DstMemory i = spaced_by i.dst ++ bracketed_by i.op0 i.op1
@@ -38,6 +45,6 @@ module _ (place : OlaOperand → List ℕ) where
     placed_by Op1 i = spaced_by i.op1
     placed_by Bare i = []
 
-    -- the row of an instruction
-    abbrev pub row_by : BinaryInstruction → List ℕ
-    row_by i = mnemonic i.opcode ++ placed_by (row_places i.opcode) i
+-- the row of an instruction: its mnemonic and the pieces of its places, each where the row has room for all of it
+abbrev pub row_by : (OlaOperand → List (List ℕ)) → ℕ → BinaryInstruction → List ℕ
+row_by pieces between i = row_with_all [] (mnemonic i.opcode ∷ placed_by as_piece pieces between (row_places i.opcode) i)

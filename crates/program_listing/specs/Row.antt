@@ -1,5 +1,5 @@
 -- A listing row in two steps, as it is written: whether a place that it needs is empty, and its text where none is; what writing it answers.
-use Rattle.std.specs.Prelude.{ℕ, List, [], ◌++◌, Bool, true, false, ◌||◌, Result, Ok, Err}
+use Rattle.std.specs.Prelude.{ℕ, List, [], ◌∷◌, ◌++◌, Bool, true, false, ◌||◌, Result, Ok, Err}
 use Rattle.text.specs.Bytes.{bytes}
 use Rattle.text.specs.Answer.{Answer, ok, refused}
 use Rattle.text_write.specs.Digits.{fewest_text}
@@ -12,7 +12,7 @@ use Rattle.vm_operands.specs.declared.OlaOperand.TheVariants.{Empty, ImmediateOp
 use Rattle.program.specs.Refusals.{row_number, row_detail}
 use Rattle.program.specs.declared.BinaryInstruction.{BinaryInstruction}
 use Rattle.program.specs.declared.RowRefusal.{RowRefusal}
-use Rattle.program_listing.specs.Places.{spaced_by, bracketed_by, placed_by}
+use Rattle.program_listing.specs.Places.{as_text, spaced_by, bracketed_by, placed_by}
 
 abbrev pub row_numbered : Result ℕ RowRefusal → Answer ℕ
 row_numbered (Ok n) = ok n
@@ -61,13 +61,22 @@ content_text (RegisterWithOffset r v) = offset_text r v.number
 content_text (RegisterWithFactor r v) = factor_text r v.number
 content_text (SpecialReg s) = special_text s
 
+-- the same as its pieces
+abbrev pub content_pieces : OlaOperand → List (List ℕ)
+content_pieces Empty = []
+content_pieces (ImmediateOperand v) = fewest_text v.number ∷ []
+content_pieces (RegisterOperand r) = register_text r ∷ []
+content_pieces (RegisterWithOffset r v) = register_text r ∷ bytes "+" ∷ fewest_text v.number ∷ []
+content_pieces (RegisterWithFactor r v) = fewest_text v.number ∷ bytes "*" ∷ register_text r ∷ []
+content_pieces (SpecialReg s) = special_text s ∷ []
+
 -- "after one space each"
 abbrev pub spaced_text : OlaOperand → List ℕ
-spaced_text = spaced_by content_text
+spaced_text = spaced_by as_text content_text
 
 -- `[op0+op1]`, after one space
 abbrev pub bracketed_text : OlaOperand → OlaOperand → List ℕ
-bracketed_text = bracketed_by content_text 43
+bracketed_text = bracketed_by as_text content_text 43
 
 abbrev pub placed_text : RowPlaces → BinaryInstruction → List ℕ
-placed_text = placed_by content_text 43
+placed_text = placed_by as_text content_text 43

@@ -6,7 +6,7 @@ ghost use Rattle.std.specs.Prelude.{◌≡◌, length};
 ghost use Rattle.program.specs.Bytecode.{text_left};
 ghost use Rattle.program.specs.Listing.{row_written};
 ghost use Rattle.program_bytecode.specs.Written.{count_of};
-ghost use Rattle.program_listing.specs.Row.{is_empty_place, lacks_place, content_text, row_numbered};
+ghost use Rattle.program_listing.specs.Row.{is_empty_place, lacks_place, content_pieces, row_numbered};
 
 pub mod row;
 
@@ -43,7 +43,7 @@ fn lacks_place(places: RowPlaces, instruction: BinaryInstruction) -> bool
 struct Listed;
 
 impl RowText for Listed {
-    ghost place = { content_text };
+    ghost pieces = { content_pieces };
 
     ghost BETWEEN = { 43 };
 

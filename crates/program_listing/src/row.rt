@@ -6,7 +6,7 @@ ghost use Rattle.text_write.specs.Put.{put_count, put_into};
 ghost use Rattle.vm_mnemonics.specs.Mnemonics.{mnemonic};
 ghost use Rattle.vm_hardware.specs.Registers.{register_text, special_text};
 ghost use Rattle.vm_operands.specs.declared.OlaOperand.{OlaOperand};
-ghost use Rattle.program_listing.specs.Places.{row_with, Appends, spaced_by, bracketed_by, placed_by, row_by};
+ghost use Rattle.program_listing.specs.Places.{row_with, row_with_all, as_piece, spaced_by, bracketed_by, placed_by, row_by};
 
 use program::BinaryInstruction;
 use std::marker::Model;
@@ -79,20 +79,20 @@ impl Row {
 
 // How a row writes a place, and what stands between the two places of an address.
 pub trait RowText {
-    ghost place: { OlaOperand → List ℕ };
+    ghost pieces: { OlaOperand → List (List ℕ) };
 
     ghost BETWEEN: { ℕ };
 
     const BETWEEN: u8;
 
-    // Appends what stands in a place, of at most 23 bytes.
+    // Appends what stands in a place, piece by piece, each where the row has room for all of it.
     fn push_place(row: &mut Row, operand: OlaOperand)
-        ensures { Appends 23 row.old (place operand) row.new };
+        ensures { row.new ≡ row_with_all row.old (pieces operand) };
 }
 
 // One space and a place.
 fn push_spaced<T: RowText>(row: &mut Row, operand: OlaOperand)
-    ensures { Appends 24 row.old (spaced_by T.place operand) row.new }
+    ensures { row.new ≡ row_with_all row.old (spaced_by as_piece T.pieces operand) }
 {
     row.push(b' ');
     T::push_place(row, operand);
@@ -100,7 +100,7 @@ fn push_spaced<T: RowText>(row: &mut Row, operand: OlaOperand)
 
 // One space and an address, as `[op0+op1]`.
 fn push_memory<T: RowText>(row: &mut Row, op0: OlaOperand, op1: OlaOperand)
-    ensures { Appends 50 row.old (bracketed_by T.place T.BETWEEN op0 op1) row.new }
+    ensures { row.new ≡ row_with_all row.old (bracketed_by as_piece T.pieces T.BETWEEN op0 op1) }
 {
     row.push(b' ');
     row.push(b'[');
@@ -112,7 +112,7 @@ fn push_memory<T: RowText>(row: &mut Row, op0: OlaOperand, op1: OlaOperand)
 
 // Two places, after one space each.
 fn push_two<T: RowText>(row: &mut Row, a: OlaOperand, b: OlaOperand)
-    ensures { Appends 48 row.old (spaced_by T.place a ++ spaced_by T.place b) row.new }
+    ensures { row.new ≡ row_with_all row.old (spaced_by as_piece T.pieces a ++ spaced_by as_piece T.pieces b) }
 {
     push_spaced::<T>(row, a);
     push_spaced::<T>(row, b);
@@ -120,7 +120,7 @@ fn push_two<T: RowText>(row: &mut Row, a: OlaOperand, b: OlaOperand)
 
 // The places of a row, in its order.
 fn push_places<T: RowText>(row: &mut Row, places: RowPlaces, instruction: BinaryInstruction)
-    ensures { Appends 74 row.old (placed_by T.place T.BETWEEN places instruction) row.new }
+    ensures { row.new ≡ row_with_all row.old (placed_by as_piece T.pieces T.BETWEEN places instruction) }
 {
     let BinaryInstruction { op0, op1, dst, .. } = instruction;
     match places {
@@ -149,7 +149,7 @@ pub fn put_row<T: RowText>(
     text: &mut [u8],
     at: usize,
 ) -> Option<usize>
-    ensures { (result ≡ put_count text.old at (row_by T.place T.BETWEEN instruction)) × (text.new ≡ put_into text.old at (row_by T.place T.BETWEEN instruction)) }
+    ensures { (result ≡ put_count text.old at (row_by T.pieces T.BETWEEN instruction)) × (text.new ≡ put_into text.old at (row_by T.pieces T.BETWEEN instruction)) }
 {
     let mut row = Row {
         bytes: [0; 82],

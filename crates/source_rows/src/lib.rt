@@ -4,7 +4,8 @@
 
 ghost use Rattle.std.specs.Prelude.{◌≡◌};
 ghost use Rattle.text_write.specs.Put.{put_count, put_into};
-ghost use Rattle.source.specs.SourceText.{place_source, source_row, is_full, off_row, is_off_row};
+ghost use Rattle.source.specs.SourceText.{source_row, is_full, off_row, is_off_row};
+ghost use Rattle.source_rows.specs.Pieces.{source_pieces};
 
 use program::BinaryInstruction;
 use program_listing::row::{Row, RowText, put_row};
@@ -45,7 +46,7 @@ pub fn is_off_row(instruction: BinaryInstruction) -> bool
 struct Source;
 
 impl RowText for Source {
-    ghost place = { place_source };
+    ghost pieces = { source_pieces };
 
     ghost BETWEEN = { 44 };
 
@@ -76,6 +77,7 @@ impl RowText for Source {
 
 // Writes the source row of an instruction at byte `at` where it fits, and says how many bytes; otherwise leaves the text as it is.
 // Promises: source_written_lem.
+#[tactic(auto, using(crate::proofs::Laws::put_laws))]
 pub fn put_source_row(text: &mut [u8], at: usize, instruction: BinaryInstruction) -> Option<usize>
     ensures { (result ≡ put_count text.old at (source_row instruction)) × (text.new ≡ put_into text.old at (source_row instruction)) }
 {

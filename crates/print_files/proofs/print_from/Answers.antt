@@ -5,10 +5,10 @@ use Rattle.print_files.proofs.print_from.Goals as goal
 
 pub slice_bounds-text-end : goal.slice_bounds-text-end
 slice_bounds-text-end g c =
-    let w = printed_within _ _ c.print_source-printed.result c.in-Some.m c.print_source-printed.ensures.result_value c.in-Some.is in
+    let w = printed_within _ _ c.print_source-printed.result c.in-Ok.m c.print_source-printed.ensures.result_value c.in-Ok.is in
     omega (arith, c.print_source-printed.auto.text)
 
 pub slice_bounds-write_all-end : goal.slice_bounds-write_all-end
 slice_bounds-write_all-end g c =
-    let w = printed_within _ _ c.print_source-printed.result c.in-Some.m c.print_source-printed.ensures.result_value c.in-Some.is in
-    sym (length-take-le c.in-Some.m c.print_source-printed.new.text (omega (arith, c.print_source-printed.auto.text)))
+    let w = printed_within _ _ c.print_source-printed.result c.in-Ok.m c.print_source-printed.ensures.result_value c.in-Ok.is in
+    sym (length-take-le c.in-Ok.m c.print_source-printed.new.text (omega (arith, c.print_source-printed.auto.text)))
