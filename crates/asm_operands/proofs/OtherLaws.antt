@@ -1,14 +1,17 @@
 -- Laws of the shapes without brackets: a register, a number, a label, a special register, a name.
 use Rattle.std.specs.Prelude.{Option, Some, None, Result, Ok, Err}
-use Prim.Native.Nat.{ℕ}
+use Prim.Native.Nat.{ℕ, ◌<◌}
 use mathlib.Core.Path.{◌≡◌, refl, sym, ap, ◌∙◌}
 use mathlib.Core.List.{List, [], ◌∷◌}
-use mathlib.Core.Bool.{Bool, true, false, ◌&&◌}
+use mathlib.Core.Bool.{Bool, true, false, ◌&&◌, and-false}
+use native.Mathlib.Omega.{arith}
+use borrow.Author.Tests.{ne_eqb}
 use lib.Dec.{eqb}
 use lib.Pointwise.{pointwise}
-use lib.ListN.{length, take, drop}
-use lib.Seq.{slice}
+use lib.ListN.{length, take, drop, get_or, length-drop}
+use lib.Seq.{slice, take_all}
 use Rattle.text.specs.Bytes.{bytes, same}
+use Rattle.text.proofs.SameLaws.{same_off}
 use Rattle.vm_hardware.specs.Registers.{register_of, special_of}
 use Rattle.vm_hardware.specs.declared.OlaRegister.{OlaRegister}
 use Rattle.vm_hardware.specs.declared.OlaSpecialRegister.{OlaSpecialRegister}
@@ -63,6 +66,16 @@ module _ (x : List ℕ) (n : ℕ) where
       go (a ∷ b ∷ []) = refl
       go (a ∷ b ∷ c ∷ []) = refl
       go (a ∷ b ∷ c ∷ d ∷ r) = refl
+
+  -- none in fewer than four bytes
+  pub label_short : length x < 4 → Ok None ≡ tried label (placed n x)
+  label_short h =
+      let w : same (slice 1 4 x) (bytes "LBL") ≡ false = same_off (slice 1 4 x) (bytes "LBL") (λ q. omega (arith, q, length-drop 1 (take 4 x), ap length (take_all 4 x (omega arith)))) in
+      tried_other label (placed n x) (rw (w, and-false (byte_is x 0 46)))
+
+  -- without the dot none
+  pub label_undotted : (get_or x 0 0 ≡ 46 → ⊥) → Ok None ≡ tried label (placed n x)
+  label_undotted h = tried_other label (placed n x) (rw (ne_eqb _ _ h))
 
   -- without them none
   pub label_other : pointwise eqb (take 4 x) (bytes ".LBL") ≡ false → Ok None ≡ tried label (placed n x)

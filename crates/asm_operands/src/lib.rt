@@ -1,6 +1,7 @@
 // The operand reader: `from_str` of assembler/src/operands.rs. One function for each shape, under the name and in the order of that file: `try_reg` is its `regex_reg`.
 // Above each stand 01's shape, the file's pattern as it is written there, and what a Point of 02 changed in it. Where the file matches a pattern and then reads
 // its parts, one function does both here. tests/shapes sees to names, order and patterns.
+// Three are inlined: the room for what each of them answers was cleared at every operand.
 #![tactic(auto)]
 
 ghost use Rattle.std.specs.Prelude.{◌≡◌};
@@ -148,6 +149,7 @@ fn try_immediate_value(piece: &[u8]) -> Result<Option<OlaAsmOperand>, OutOfRange
 // r"^(?P<label>.LBL[[:digit:]]+_[[:digit:]]+)$"
 // 02, Point 2: the first character is a dot, where the pattern takes any.
 #[tactic(auto, using(crate::proofs::OtherLaws::label_laws))]
+#[inline(always)]
 fn try_label(piece: &[u8], start: usize) -> Result<Option<OlaAsmOperand>, OutOfRange>
     ensures { result ≡ tried label (record { start = start; text = piece.now }) }
 {
@@ -166,6 +168,7 @@ fn try_label(piece: &[u8], start: usize) -> Result<Option<OlaAsmOperand>, OutOfR
 // `pc` or `psp`
 // OlaSpecialRegister::from_str(s)
 #[tactic(auto, using(crate::proofs::OtherLaws::special_laws))]
+#[inline(always)]
 fn try_special_reg(piece: &[u8]) -> Result<Option<OlaAsmOperand>, OutOfRange>
     ensures { result ≡ tried special (record { start = 0; text = piece.now }) }
 {
@@ -178,6 +181,7 @@ fn try_special_reg(piece: &[u8]) -> Result<Option<OlaAsmOperand>, OutOfRange>
 // A name.
 // r"^(?P<identifier>_*[[:alpha:]]+[[:word:]]*)$"
 #[tactic(auto, using(crate::proofs::OtherLaws::name_laws))]
+#[inline(always)]
 fn try_identifier(piece: &[u8], start: usize) -> Result<Option<OlaAsmOperand>, OutOfRange>
     ensures { result ≡ tried name (record { start = start; text = piece.now }) }
 {
@@ -194,32 +198,50 @@ fn try_identifier(piece: &[u8], start: usize) -> Result<Option<OlaAsmOperand>, O
 pub fn from_str(piece: &[u8], start: usize) -> Option<OlaAsmOperand>
     ensures { result ≡ operand_of (record { start = start; text = piece.now }) }
 {
-    if let Some(found) = try_reg_with_reg_factored_offset(piece).transpose() {
-        return found.ok();
+    match try_reg_with_reg_factored_offset(piece) {
+        Ok(Some(operand)) => return Some(operand),
+        Ok(None) => {}
+        Err(OutOfRange) => return None,
     }
-    if let Some(found) = try_reg_with_reg_offset(piece).transpose() {
-        return found.ok();
+    match try_reg_with_reg_offset(piece) {
+        Ok(Some(operand)) => return Some(operand),
+        Ok(None) => {}
+        Err(OutOfRange) => return None,
     }
-    if let Some(found) = try_reg_with_default_offset(piece).transpose() {
-        return found.ok();
+    match try_reg_with_default_offset(piece) {
+        Ok(Some(operand)) => return Some(operand),
+        Ok(None) => {}
+        Err(OutOfRange) => return None,
     }
-    if let Some(found) = try_reg_offset(piece).transpose() {
-        return found.ok();
+    match try_reg_offset(piece) {
+        Ok(Some(operand)) => return Some(operand),
+        Ok(None) => {}
+        Err(OutOfRange) => return None,
     }
-    if let Some(found) = try_reg(piece).transpose() {
-        return found.ok();
+    match try_reg(piece) {
+        Ok(Some(operand)) => return Some(operand),
+        Ok(None) => {}
+        Err(OutOfRange) => return None,
     }
-    if let Some(found) = try_immediate_value(piece).transpose() {
-        return found.ok();
+    match try_immediate_value(piece) {
+        Ok(Some(operand)) => return Some(operand),
+        Ok(None) => {}
+        Err(OutOfRange) => return None,
     }
-    if let Some(found) = try_label(piece, start).transpose() {
-        return found.ok();
+    match try_label(piece, start) {
+        Ok(Some(operand)) => return Some(operand),
+        Ok(None) => {}
+        Err(OutOfRange) => return None,
     }
-    if let Some(found) = try_special_reg(piece).transpose() {
-        return found.ok();
+    match try_special_reg(piece) {
+        Ok(Some(operand)) => return Some(operand),
+        Ok(None) => {}
+        Err(OutOfRange) => return None,
     }
-    if let Some(found) = try_identifier(piece, start).transpose() {
-        return found.ok();
+    match try_identifier(piece, start) {
+        Ok(Some(operand)) => return Some(operand),
+        Ok(None) => {}
+        Err(OutOfRange) => return None,
     }
     None
 }

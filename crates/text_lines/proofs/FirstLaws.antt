@@ -5,19 +5,37 @@ use mathlib.Core.List.{List}
 use mathlib.Core.Bool.{true, false}
 use native.Mathlib.Omega.{arith}
 use borrow.Author.Rules.{rules}
-use borrow.Author.Tests.{ne_eqb}
+use borrow.Author.Tests.{eq-eqb, ne_eqb}
 use mir.Val.{Fits}
 use mir.Syntax.{w64}
-use lib.ListN.{length, get_or, take, drop}
+use lib.ListN.{length, get_or, take, drop, drop_of_length-le}
 use lib.Seq.{length-take-le, get_or-take}
 use Rattle.text.specs.Bytes.{is_space}
 use Rattle.text.specs.Scan.{scan}
 use Rattle.text.specs.Classes.{holds}
 use Rattle.text.specs.Lines.{not_feed, ends_in_return, without_return, line_length, line_next, first_line}
 use Rattle.text.specs.Pieces.{not_space, piece_start, piece_length, first_piece}
-use Rattle.text.specs.declared.ByteClass.TheVariants.{Space, NotSpace, IsNot}
-use Rattle.text.proofs.Laws.{scan_le, part_from, within_laws}
+use Rattle.text.specs.declared.ByteClass.TheVariants.{Space, NotSpace}
+use Rattle.text.proofs.Laws.{drop_next, scan_le, part_from, within_laws}
 use Rattle.text.proofs.PartLaws.{line_ended, line_last}
+
+-- ---- the line feed that is looked for, where i bytes were passed
+module _ (s : List ℕ) (i : ℕ) (e : scan not_feed s ≡ i + scan not_feed (drop i s)) where
+  pub feed_more : i < length s → (get_or s i 0 ≡ 10 → ⊥) → scan not_feed s ≡ (i + 1) + scan not_feed (drop (i + 1) s)
+  unfolding scan
+  feed_more h f = e ∙ rw (drop_next s i h, ne_eqb (get_or s i 0) 10 f) (omega arith)
+
+  pub feed_here : i < length s → get_or s i 0 ≡ 10 → i ≡ scan not_feed s
+  unfolding scan
+  feed_here h f = sym (e ∙ rw (drop_next s i h, eq-eqb (get_or s i 0) 10 f) (omega arith))
+
+  pub feed_none : i ≤ length s → length s ≤ i → length s ≡ scan not_feed s
+  unfolding scan
+  feed_none h k = sym (e ∙ rw (drop_of_length-le s k) (omega arith))
+
+pub ruleset feed_laws = (feed_more, feed_here, feed_none, rules)
+
+-- ---- the first line
 
 made : (s : List ℕ) (a b : ℕ) → a ≡ line_length s → b ≡ line_next s → record { length = a; next = b } ≡ first_line s
 made s a b e f = cc
@@ -35,7 +53,7 @@ return_kept s n h p e =
     let t : ends_in_return (take n s) ≡ false = rw (l, get_or-take n s (n - 1) 0 (omega arith)) (ne_eqb _ _ e) in
     rw t l
 
-module _ (s : List ℕ) (n : ℕ) (e : n ≡ scan (holds (IsNot 10)) s) where
+module _ (s : List ℕ) (n : ℕ) (e : n ≡ scan not_feed s) where
   short : (n ≡ length s → ⊥) → scan not_feed s < length s
   short h = let w = scan_le not_feed s in omega arith
 
