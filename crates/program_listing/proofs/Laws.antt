@@ -21,7 +21,7 @@ use Rattle.program.specs.declared.RowRefusal.TheVariants.{NumberTooLarge, PlaceE
 use Rattle.program.specs.declared.RowRefusal.{RowRefusal}
 use Rattle.program_bytecode.specs.Written.{count_of}
 use Rattle.program_bytecode.proofs.Laws.{stored_left, kept_left, count_left, short_left}
-use Rattle.program_listing.specs.Places.{row_by}
+use Rattle.program_listing.specs.Places.{row_by, row_pushed}
 use Rattle.program_listing.specs.Row.{row_numbered, lacks_place, content_text, content_pieces}
 use Rattle.program_listing.proofs.Places.{NumbersFit, row_whole}
 use Rattle.program_listing.proofs.Pieces.{content_whole}
@@ -78,17 +78,28 @@ module _ (i : BinaryInstruction) (d : List ℕ) where
       pub lacking_text : u ≡ true → d ≡ text_left (row_written i (length d)) d
       lacking_text k = refused_text 24 (row_lacks i (sym e ∙ h) (lacks true k))
 
-      module _ (k : u ≡ false) (r : Option ℕ) (s : r ≡ put_count d 0 (row_by content_pieces 43 i)) (fits : NumbersFit i) where
-        -- neither: the row, of which nothing is left out
-        row_is : row_written i (length d) ≡ within (length d) (row_by content_pieces 43 i)
-        row_is = made _ (row_made i (sym e ∙ h) (lacks false k)) ∙ ap (within (length d)) (sym (row_whole content_text content_pieces 43 content_whole i fits))
+      module _ (k : u ≡ false) (r : Option ℕ) (s : r ≡ put_count d 0 (row_by content_text 43 i)) where
+        -- neither: the row
+        row_is : row_written i (length d) ≡ within (length d) (row_by content_text 43 i)
+        row_is = made _ (row_made i (sym e ∙ h) (lacks false k))
 
         -- its count is answered, or 23
         pub row_answer : (q : Result ℕ RowRefusal) → q ≡ ok_or r TextTooShort → row_numbered q ≡ count_of (row_written i (length d))
         row_answer q j = ap row_numbered j ∙ put_answer d _ r s ∙ sym (ap count_of row_is)
 
         -- it is written, or the text left as it was
-        pub row_left : (b : List ℕ) → b ≡ put_into d 0 (row_by content_pieces 43 i) → b ≡ text_left (row_written i (length d)) d
+        pub row_left : (b : List ℕ) → b ≡ put_into d 0 (row_by content_text 43 i) → b ≡ text_left (row_written i (length d)) d
         row_left b j = j ∙ put_text d _ r s ∙ sym (ap (λ (a : Answer (List ℕ)). text_left a d) row_is)
 
-pub ruleset row_laws = (large_count, large_text, lacking_count, lacking_text, row_answer, row_left, rules)
+      -- the same of the row as it is pushed, of which nothing is left out
+      module _ (k : u ≡ false) (r : Option ℕ) (s : r ≡ put_count d 0 (row_pushed content_pieces 43 i)) (fits : NumbersFit i) where
+        whole : row_pushed content_pieces 43 i ≡ row_by content_text 43 i
+        whole = row_whole content_text content_pieces 43 content_whole i fits
+
+        pub pushed_answer : (q : Result ℕ RowRefusal) → q ≡ ok_or r TextTooShort → row_numbered q ≡ count_of (row_written i (length d))
+        pushed_answer q j = row_answer k r (s ∙ ap (put_count d 0) whole) q j
+
+        pub pushed_left : (b : List ℕ) → b ≡ put_into d 0 (row_pushed content_pieces 43 i) → b ≡ text_left (row_written i (length d)) d
+        pushed_left b j = row_left k r (s ∙ ap (put_count d 0) whole) b (j ∙ ap (put_into d 0) whole)
+
+pub ruleset row_laws = (large_count, large_text, lacking_count, lacking_text, row_answer, row_left, pushed_answer, pushed_left, rules)

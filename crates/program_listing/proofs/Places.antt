@@ -34,7 +34,7 @@ use Rattle.vm_operands.specs.declared.OlaOperand.{OlaOperand}
 use Rattle.program.specs.Instructions.{carried}
 use Rattle.program.specs.declared.BinaryInstruction.{BinaryInstruction}
 use Rattle.program_bytecode.proofs.Laws.{put_long}
-use Rattle.program_listing.specs.Places.{row_with, row_with_all, as_text, as_piece, spaced_by, bracketed_by, placed_by, row_by}
+use Rattle.program_listing.specs.Places.{row_with, row_with_all, as_text, as_piece, spaced_by, bracketed_by, placed_by, row_by, row_pushed}
 
 -- ---- a text behind a row: one that fits, and one that does not
 module _ (row w : List ℕ) where
@@ -105,7 +105,7 @@ pub both_behind : (x y z : List ℕ) (us vs : List (List ℕ)) → y ≡ row_wit
 both_behind x y z us vs e f = f ∙ ap (λ (r : List ℕ). row_with_all r vs) e ∙ sym (with_both x us vs)
 
 -- all of them, where they fit
-all_fit : (row : List ℕ) (ws : List (List ℕ)) → length row + length (concat ws) ≤ 82 → row_with_all row ws ≡ row ++ concat ws
+pub all_fit : (row : List ℕ) (ws : List (List ℕ)) → length row + length (concat ws) ≤ 82 → row_with_all row ws ≡ row ++ concat ws
 all_fit row [] h = sym (append-nil row)
 all_fit row (w ∷ ws) h =
     let m = length-append w (concat ws) in
@@ -166,7 +166,7 @@ both_make {us} {vs} {u} {v} a b =
 
 -- as it is pushed
 module _ (pieces : OlaOperand → List (List ℕ)) (between : ℕ) (i : BinaryInstruction) (p : RowPlaces) (x y z : List ℕ) where
-  pub row_made : x ≡ row_with [] (mnemonic i.opcode) → p ≡ row_places i.opcode → y ≡ row_with_all x (placed_by as_piece pieces between p i) → z ≡ y → z ≡ row_by pieces between i
+  pub row_made : x ≡ row_with [] (mnemonic i.opcode) → p ≡ row_places i.opcode → y ≡ row_with_all x (placed_by as_piece pieces between p i) → z ≡ y → z ≡ row_pushed pieces between i
   row_made e f a g = g ∙ a ∙ ap₂ (λ (r : List ℕ) (q : RowPlaces). row_with_all r (placed_by as_piece pieces between q i)) e f
 
 -- nothing of it is left out: the mnemonic and the texts of its places, which have room
@@ -192,7 +192,7 @@ module _ (place : OlaOperand → List ℕ) (pieces : OlaOperand → List (List �
     placed_makes Op1 = at_most 74 (spaced_makes i.op1 fits.op1) (lit≤ tt)
     placed_makes Bare = record { joined = refl; most = lit≤ tt }
 
-    pub row_whole : row_by pieces between i ≡ mnemonic i.opcode ++ placed_by as_text place between (row_places i.opcode) i
+    pub row_whole : row_pushed pieces between i ≡ row_by place between i
     row_whole =
         let m = both_make (one_makes 8 (mnemonic i.opcode) (mnemonic_most i.opcode)) (placed_makes (row_places i.opcode)) in
         let n = m.most in

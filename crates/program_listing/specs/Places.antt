@@ -45,6 +45,10 @@ module _ {A : Type 0} (told : List ℕ → List A) (place : OlaOperand → List 
     placed_by Op1 i = spaced_by i.op1
     placed_by Bare i = []
 
--- the row of an instruction: its mnemonic and the pieces of its places, each where the row has room for all of it
-abbrev pub row_by : (OlaOperand → List (List ℕ)) → ℕ → BinaryInstruction → List ℕ
-row_by pieces between i = row_with_all [] (mnemonic i.opcode ∷ placed_by as_piece pieces between (row_places i.opcode) i)
+-- the row of an instruction: its mnemonic and its places
+abbrev pub row_by : (OlaOperand → List ℕ) → ℕ → BinaryInstruction → List ℕ
+row_by place between i = mnemonic i.opcode ++ placed_by as_text place between (row_places i.opcode) i
+
+-- the same as it is pushed, its mnemonic and the pieces of its places, each where the row has room for all of it
+abbrev pub row_pushed : (OlaOperand → List (List ℕ)) → ℕ → BinaryInstruction → List ℕ
+row_pushed pieces between i = row_with_all [] (mnemonic i.opcode ∷ placed_by as_piece pieces between (row_places i.opcode) i)

@@ -6,7 +6,7 @@ ghost use Rattle.text_write.specs.Put.{put_count, put_into};
 ghost use Rattle.vm_mnemonics.specs.Mnemonics.{mnemonic};
 ghost use Rattle.vm_hardware.specs.Registers.{register_text, special_text};
 ghost use Rattle.vm_operands.specs.declared.OlaOperand.{OlaOperand};
-ghost use Rattle.program_listing.specs.Places.{row_with, row_with_all, as_piece, spaced_by, bracketed_by, placed_by, row_by};
+ghost use Rattle.program_listing.specs.Places.{row_with, row_with_all, as_piece, spaced_by, bracketed_by, placed_by, row_pushed};
 
 use program::BinaryInstruction;
 use std::marker::Model;
@@ -149,7 +149,7 @@ pub fn put_row<T: RowText>(
     text: &mut [u8],
     at: usize,
 ) -> Option<usize>
-    ensures { (result ≡ put_count text.old at (row_by T.pieces T.BETWEEN instruction)) × (text.new ≡ put_into text.old at (row_by T.pieces T.BETWEEN instruction)) }
+    ensures { (result ≡ put_count text.old at (row_pushed T.pieces T.BETWEEN instruction)) × (text.new ≡ put_into text.old at (row_pushed T.pieces T.BETWEEN instruction)) }
 {
     let mut row = Row {
         bytes: [0; 82],

@@ -2,6 +2,7 @@
 use Rattle.std.specs.Prelude.{Option}
 use borrow.Author.Rules.{rules}
 use Prim.Native.Nat.{ℕ, ◌<◌, ◌^◌}
+use mathlib.Core.Logic.{◌⊎◌, inl, inr}
 use mathlib.Core.Path.{◌≡◌, refl, sym, ap, ap₂, ◌∙◌}
 use mathlib.Core.List.{List, [], ◌∷◌, ◌++◌, append-nil, append_assoc}
 use lib.Dec.{lit≤}
@@ -20,7 +21,7 @@ use Rattle.vm_operands.specs.declared.ImmediateValue.{ImmediateValue}
 use Rattle.vm_operands.specs.declared.OlaOperand.{OlaOperand}
 use Rattle.vm_operands.specs.declared.OlaOperand.TheVariants.{Empty, ImmediateOperand, RegisterOperand, RegisterWithOffset, RegisterWithFactor, SpecialReg}
 use Rattle.program.specs.declared.BinaryInstruction.{BinaryInstruction}
-use Rattle.program_listing.specs.Places.{as_text, spaced_by, bracketed_by, placed_by, row_by}
+use Rattle.program_listing.specs.Places.{as_text, spaced_by, bracketed_by, placed_by, row_by, row_pushed}
 use Rattle.program_listing.proofs.Places.{Makes, NumberFits, NumbersFit, one_makes, at_most, both_make, register_most, special_most, row_whole}
 use Rattle.source.specs.SourceText.{place_source, memory_source, places_source, spaced_all, source_row}
 use Rattle.source_rows.specs.Pieces.{source_pieces}
@@ -28,11 +29,15 @@ use Rattle.source_rows.specs.Pieces.{source_pieces}
 -- ---- the pieces of a place are its text, of at most 23 bytes
 
 -- a register and its number, with offset or with factor
+pub pair_is : (o : OlaOperand) (r : OlaRegister) (v : ImmediateValue) → (o ≡ RegisterWithOffset r v) ⊎ (o ≡ RegisterWithFactor r v) → place_source o ≡ register_text r ++ bytes "," ++ decimal_text v.number
+pair_is o r v (inl e) = ap place_source e
+pair_is o r v (inr e) = ap place_source e
+
 pair_whole : (r : OlaRegister) (v : ImmediateValue) → v.number < 2 ^ 64 → Makes 23 (register_text r ∷ bytes "," ∷ decimal_text v.number ∷ []) (register_text r ++ bytes "," ++ decimal_text v.number)
 pair_whole r v h =
     both_make (both_make (one_makes 2 (register_text r) (register_most r)) (one_makes 1 (bytes ",") (lit≤ tt))) (one_makes 20 (decimal_text v.number) (decimal_most v.number h))
 
-source_whole : (o : OlaOperand) → NumberFits o → Makes 23 (source_pieces o) (place_source o)
+pub source_whole : (o : OlaOperand) → NumberFits o → Makes 23 (source_pieces o) (place_source o)
 source_whole Empty h = one_makes 23 (special_text PSP) (lit≤ tt)
 source_whole (ImmediateOperand v) h = at_most 23 (one_makes 20 (decimal_text v.number) (decimal_most v.number (h v.number refl))) (lit≤ tt)
 source_whole (RegisterOperand r) h = one_makes 23 (register_text r) (lit≤ tt)
@@ -66,15 +71,19 @@ placed_is Op0Op1 i = ap (λ (s : List ℕ). spaced_by as_text place_source i.op0
 placed_is Op1 i = last_is (place_source i.op1)
 placed_is Bare i = refl
 
--- the row, of which nothing is left out
-pub row_is : (i : BinaryInstruction) → NumbersFit i → row_by source_pieces 44 i ≡ source_row i
-row_is i fits = row_whole place_source source_pieces 44 source_whole i fits ∙ ap (λ (s : List ℕ). mnemonic i.opcode ++ s) (placed_is (row_places i.opcode) i)
+-- the row
+pub row_is : (i : BinaryInstruction) → row_by place_source 44 i ≡ source_row i
+row_is i = ap (λ (s : List ℕ). mnemonic i.opcode ++ s) (placed_is (row_places i.opcode) i)
+
+-- and the row as it is pushed, of which nothing is left out
+pub pushed_is : (i : BinaryInstruction) → NumbersFit i → row_pushed source_pieces 44 i ≡ source_row i
+pushed_is i fits = row_whole place_source source_pieces 44 source_whole i fits ∙ row_is i
 
 -- the row that is put is the source row
-pub row_counted : (i : BinaryInstruction) → NumbersFit i → (d : List ℕ) (at : ℕ) (r : Option ℕ) → r ≡ put_count d at (row_by source_pieces 44 i) → r ≡ put_count d at (source_row i)
-row_counted i fits d at r e = e ∙ ap (put_count d at) (row_is i fits)
+pub row_counted : (i : BinaryInstruction) → NumbersFit i → (d : List ℕ) (at : ℕ) (r : Option ℕ) → r ≡ put_count d at (row_pushed source_pieces 44 i) → r ≡ put_count d at (source_row i)
+row_counted i fits d at r e = e ∙ ap (put_count d at) (pushed_is i fits)
 
-pub row_stored : (i : BinaryInstruction) → NumbersFit i → (d : List ℕ) (at : ℕ) (b : List ℕ) → b ≡ put_into d at (row_by source_pieces 44 i) → b ≡ put_into d at (source_row i)
-row_stored i fits d at b e = e ∙ ap (put_into d at) (row_is i fits)
+pub row_stored : (i : BinaryInstruction) → NumbersFit i → (d : List ℕ) (at : ℕ) (b : List ℕ) → b ≡ put_into d at (row_pushed source_pieces 44 i) → b ≡ put_into d at (source_row i)
+row_stored i fits d at b e = e ∙ ap (put_into d at) (pushed_is i fits)
 
 pub ruleset put_laws = (row_counted, row_stored, rules)
