@@ -3,7 +3,7 @@ use Rattle.std.specs.Prelude.{Option, Some, ◌^◌}
 use Prim.Native.Nat.{ℕ, ◌+◌, ◌<◌, ◌≤◌}
 use mathlib.Core.Path.{◌≡◌, refl, sym, ap, ap₂, ◌∙◌}
 use mathlib.Core.List.{List, [], ◌∷◌, ◌++◌, append-nil, append_assoc}
-use mathlib.Core.Bool.{Bool, true, false}
+use mathlib.Core.Bool.{Bool, true, false, cond}
 use native.Mathlib.Omega.{arith}
 use native.Mathlib.Nat.{add-zero}
 use native.Mathlib.Numerals.{add-one}
@@ -34,7 +34,7 @@ use Rattle.vm_operands.specs.declared.OlaOperand.{OlaOperand}
 use Rattle.program.specs.Instructions.{carried}
 use Rattle.program.specs.declared.BinaryInstruction.{BinaryInstruction}
 use Rattle.program_bytecode.proofs.Laws.{put_long}
-use Rattle.program_listing.specs.Places.{row_with, row_with_all, as_text, as_piece, spaced_by, bracketed_by, placed_by, row_by, row_pushed}
+use Rattle.program_listing.specs.Places.{row_with, row_with_all, Appends, short_text, place_text, whole_pieces, as_text, as_piece, spaced_by, bracketed_by, placed_by, row_by, row_pushed}
 
 -- ---- a text behind a row: one that fits, and one that does not
 module _ (row w : List ℕ) where
@@ -112,6 +112,65 @@ all_fit row (w ∷ ws) h =
     let n = length-append row w in
     ap (λ (r : List ℕ). row_with_all r ws) (with_fits row w (omega arith)) ∙ all_fit (row ++ w) ws (omega arith) ∙ append_assoc row w (concat ws)
 
+-- ---- one text behind another
+
+-- a text pushed
+pub pushed : {x y u : List ℕ} (k : ℕ) → y ≡ row_with x u → length u ≤ k → Appends k x u y
+pushed {x} {y} {u} k e h = record { most = h; appended = λ l. e ∙ with_fits x u l }
+
+-- no more bytes than more
+pub at_most : {x y u : List ℕ} {j : ℕ} (k : ℕ) → Appends j x u y → j ≤ k → Appends k x u y
+at_most k a h = record { most = omega (arith, a.most); appended = a.appended }
+
+-- two texts
+pub both : {x y z u v : List ℕ} {j k : ℕ} → Appends j x u y → Appends k y v z → Appends (j + k) x (u ++ v) z
+both {x} {y} {z} {u} {v} a b =
+    let n = length-append u v in
+    record {
+      most = omega (arith, a.most, b.most);
+      appended = λ l. let e = a.appended (omega arith) in let m = ap length e ∙ length-append x u in b.appended (omega arith) ∙ ap (λ (s : List ℕ). s ++ v) e ∙ append_assoc x u v;
+    }
+
+-- ---- a place as one text
+
+-- it has at most 23 bytes
+pub short_most : (w : List ℕ) → length (short_text w) ≤ 23
+unfolding short_text
+short_most w = go (leb (length w) 23) refl
+  where
+    go : (t : Bool) → leb (length w) 23 ≡ t → length (cond t w []) ≤ 23
+    go true e = leb-true _ _ e
+    go false e = lit≤ tt
+
+-- what is pushed of a place is behind the row if there is room
+pub place_appends : (pieces : OlaOperand → List (List ℕ)) (o : OlaOperand) (x y : List ℕ) → y ≡ row_with x (place_text pieces o) → Appends 23 x (place_text pieces o) y
+place_appends pieces o x y e = pushed 23 e (short_most _)
+
+-- the pieces in an empty row, whose text w is the first n bytes of d
+module _ (row w v d : List ℕ) (n : ℕ) (g : v ≡ w) (e : take n d ≡ v) (l : length d ≡ 82) (h : n ≤ 82) where
+  alone_long : length w ≡ n
+  alone_long = ap length (sym (e ∙ g)) ∙ length-take-le n d (omega arith)
+
+  -- a short one is appended
+  pub alone_pushed : (after : List ℕ) → n ≤ 23 → after ≡ row_with row (take n d) → after ≡ row_with row (short_text w)
+  unfolding short_text
+  alone_pushed after k f =
+      let m = alone_long in
+      f ∙ ap (row_with row) (e ∙ g ∙ sym (ap (λ (t : Bool). cond t w []) (le-leb (length w) 23 (omega arith))))
+
+  -- any other is left out
+  pub alone_left : 23 < n → row ≡ row_with row (short_text w)
+  unfolding short_text row_with
+  alone_left k =
+      let m = alone_long in
+      rw (lt-leb (length w) 23 (omega arith)) (go (leb (length row + 0) 82))
+    where
+      go : (t : Bool) → row ≡ cond t (row ++ []) row
+      go true = sym (append-nil row)
+      go false = refl
+
+pub ruleset alone_laws = (alone_pushed, alone_left, rules)
+
 -- ---- how long the parts of a row are
 
 -- a register has two bytes
@@ -150,8 +209,8 @@ pub one_makes : (k : ℕ) (w : List ℕ) → length w ≤ k → Makes k (w ∷ [
 one_makes k w h = record { joined = append-nil w; most = h }
 
 -- no more bytes than more
-pub at_most : {ws : List (List ℕ)} {w : List ℕ} {j : ℕ} (k : ℕ) → Makes j ws w → j ≤ k → Makes k ws w
-at_most k a h = record { joined = a.joined; most = omega (arith, a.most) }
+pub makes_most : {ws : List (List ℕ)} {w : List ℕ} {j : ℕ} (k : ℕ) → Makes j ws w → j ≤ k → Makes k ws w
+makes_most k a h = record { joined = a.joined; most = omega (arith, a.most) }
 
 -- two texts
 pub both_make : {us vs : List (List ℕ)} {u v : List ℕ} {j k : ℕ} → Makes j us u → Makes k vs v → Makes (j + k) (us ++ vs) (u ++ v)
@@ -164,10 +223,18 @@ both_make {us} {vs} {u} {v} a b =
 
 -- ---- the row of an instruction
 
+-- by its mnemonic and the text of its places
+module _ (place : OlaOperand → List ℕ) (between : ℕ) (i : BinaryInstruction) (p : RowPlaces) (x y z : List ℕ) where
+  pub row_made : x ≡ row_with [] (mnemonic i.opcode) → p ≡ row_places i.opcode → Appends 74 x (placed_by as_text place between p i) y → z ≡ y → z ≡ row_by place between i
+  row_made e f a g =
+      let b = both (pushed 8 e (mnemonic_most i.opcode)) a in
+      let m = b.most in
+      g ∙ b.appended (omega arith) ∙ ap (λ (q : RowPlaces). mnemonic i.opcode ++ placed_by as_text place between q i) f
+
 -- as it is pushed
 module _ (pieces : OlaOperand → List (List ℕ)) (between : ℕ) (i : BinaryInstruction) (p : RowPlaces) (x y z : List ℕ) where
-  pub row_made : x ≡ row_with [] (mnemonic i.opcode) → p ≡ row_places i.opcode → y ≡ row_with_all x (placed_by as_piece pieces between p i) → z ≡ y → z ≡ row_pushed pieces between i
-  row_made e f a g = g ∙ a ∙ ap₂ (λ (r : List ℕ) (q : RowPlaces). row_with_all r (placed_by as_piece pieces between q i)) e f
+  pub pushed_made : x ≡ row_with [] (mnemonic i.opcode) → p ≡ row_places i.opcode → y ≡ row_with_all x (placed_by as_piece pieces between p i) → z ≡ y → z ≡ row_pushed pieces between i
+  pushed_made e f a g = g ∙ a ∙ ap₂ (λ (r : List ℕ) (q : RowPlaces). row_with_all r (placed_by as_piece pieces between q i)) e f
 
 -- nothing of it is left out: the mnemonic and the texts of its places, which have room
 module _ (place : OlaOperand → List ℕ) (pieces : OlaOperand → List (List ℕ)) (between : ℕ) (whole : (o : OlaOperand) → NumberFits o → Makes 23 (pieces o) (place o)) where
@@ -184,12 +251,12 @@ module _ (place : OlaOperand → List ℕ) (pieces : OlaOperand → List (List �
 
   module _ (i : BinaryInstruction) (fits : NumbersFit i) where
     placed_makes : (p : RowPlaces) → Makes 74 (placed_by as_piece pieces between p i) (placed_by as_text place between p i)
-    placed_makes DstOp0Op1 = at_most 74 (both_make (spaced_makes i.dst fits.dst) (both_make (spaced_makes i.op0 fits.op0) (spaced_makes i.op1 fits.op1))) (lit≤ tt)
-    placed_makes DstOp1 = at_most 74 (both_make (spaced_makes i.dst fits.dst) (spaced_makes i.op1 fits.op1)) (lit≤ tt)
+    placed_makes DstOp0Op1 = makes_most 74 (both_make (spaced_makes i.dst fits.dst) (both_make (spaced_makes i.op0 fits.op0) (spaced_makes i.op1 fits.op1))) (lit≤ tt)
+    placed_makes DstOp1 = makes_most 74 (both_make (spaced_makes i.dst fits.dst) (spaced_makes i.op1 fits.op1)) (lit≤ tt)
     placed_makes DstMemory = both_make (spaced_makes i.dst fits.dst) (bracketed_makes i.op0 i.op1 fits.op0 fits.op1)
     placed_makes MemoryDst = both_make (bracketed_makes i.op0 i.op1 fits.op0 fits.op1) (spaced_makes i.dst fits.dst)
-    placed_makes Op0Op1 = at_most 74 (both_make (spaced_makes i.op0 fits.op0) (spaced_makes i.op1 fits.op1)) (lit≤ tt)
-    placed_makes Op1 = at_most 74 (spaced_makes i.op1 fits.op1) (lit≤ tt)
+    placed_makes Op0Op1 = makes_most 74 (both_make (spaced_makes i.op0 fits.op0) (spaced_makes i.op1 fits.op1)) (lit≤ tt)
+    placed_makes Op1 = makes_most 74 (spaced_makes i.op1 fits.op1) (lit≤ tt)
     placed_makes Bare = record { joined = refl; most = lit≤ tt }
 
     pub row_whole : row_pushed pieces between i ≡ row_by place between i
@@ -197,3 +264,23 @@ module _ (place : OlaOperand → List ℕ) (pieces : OlaOperand → List (List �
         let m = both_make (one_makes 8 (mnemonic i.opcode) (mnemonic_most i.opcode)) (placed_makes (row_places i.opcode)) in
         let n = m.most in
         all_fit [] (mnemonic i.opcode ∷ placed_by as_piece pieces between (row_places i.opcode) i) (rw m.joined (omega arith)) ∙ m.joined
+
+-- what stands in a place as one text is what its pieces make, where that has at most 23 bytes
+pub place_kept : (pieces : OlaOperand → List (List ℕ)) (place : OlaOperand → List ℕ) (o : OlaOperand) → Makes 23 (pieces o) (place o) → place_text pieces o ≡ place o
+unfolding short_text
+place_kept pieces place o m =
+    let h = m.most in
+    ap short_text (all_fit [] (pieces o) (rw m.joined (omega arith)) ∙ m.joined) ∙ ap (λ (t : Bool). cond t (place o) []) (le-leb (length (place o)) 23 h)
+
+-- nothing is left out of a row whose places go in as a whole
+pub whole_is : (pieces : OlaOperand → List (List ℕ)) (between : ℕ) (i : BinaryInstruction) → NumbersFit i → row_pushed (whole_pieces pieces) between i ≡ row_by (place_text pieces) between i
+whole_is pieces between i fits = row_whole (place_text pieces) (whole_pieces pieces) between (λ o h. one_makes 23 (place_text pieces o) (short_most _)) i fits
+
+module _ (pieces : OlaOperand → List (List ℕ)) (between : ℕ) (i : BinaryInstruction) (fits : NumbersFit i) (d : List ℕ) (at : ℕ) where
+  pub whole_counted : (r : Option ℕ) → r ≡ put_count d at (row_pushed (whole_pieces pieces) between i) → r ≡ put_count d at (row_by (place_text pieces) between i)
+  whole_counted r e = e ∙ ap (put_count d at) (whole_is pieces between i fits)
+
+  pub whole_stored : (b : List ℕ) → b ≡ put_into d at (row_pushed (whole_pieces pieces) between i) → b ≡ put_into d at (row_by (place_text pieces) between i)
+  whole_stored b e = e ∙ ap (put_into d at) (whole_is pieces between i fits)
+
+pub ruleset whole_laws = (whole_counted, whole_stored, rules)

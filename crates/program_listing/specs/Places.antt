@@ -1,6 +1,6 @@
 -- A row as it is put together: the texts behind it, and the places of an instruction. `place` says what stands in a place, `between` what stands
 -- between the two places of an address.
-use Rattle.std.specs.Prelude.{ℕ, ◌+◌, List, [], ◌∷◌, ◌++◌, cond, leb, length}
+use Rattle.std.specs.Prelude.{◌≡◌, ℕ, ◌+◌, ◌≤◌, List, [], ◌∷◌, ◌++◌, cond, leb, length}
 use Rattle.text.specs.Bytes.{bytes}
 use Rattle.vm_opcodes.specs.Operations.{row_places}
 use Rattle.vm_opcodes.specs.declared.RowPlaces.{RowPlaces}
@@ -18,12 +18,29 @@ abbrev pub row_with_all : List ℕ → List (List ℕ) → List ℕ
 row_with_all row [] = row
 row_with_all row (w ∷ ws) = row_with_all (row_with row w) ws
 
+-- the text has at most k bytes, and the row has it behind it if there is room
+pub record Appends (k : ℕ) (row w after : List ℕ) : Type 0 where
+  pub most : length w ≤ k
+  pub appended : length row + length w ≤ 82 → after ≡ row ++ w
+
 -- places are told as one text, or as the texts that are pushed for them, its pieces: what a text is there
 abbrev pub as_text : List ℕ → List ℕ
 as_text w = w
 
 abbrev pub as_piece : List ℕ → List (List ℕ)
 as_piece w = w ∷ []
+
+-- a text of at most 23 bytes; of one that has more nothing
+unfoldable pub short_text : List ℕ → List ℕ
+short_text w = cond (leb (length w) 23) w []
+
+-- what stands in a place as one text, where pieces are pushed for it: what they are in an empty row
+abbrev pub place_text : (OlaOperand → List (List ℕ)) → OlaOperand → List ℕ
+place_text pieces o = short_text (row_with_all [] (pieces o))
+
+-- and that text as the one piece of the place
+abbrev pub whole_pieces : (OlaOperand → List (List ℕ)) → OlaOperand → List (List ℕ)
+whole_pieces pieces o = as_piece (place_text pieces o)
 
 module _ {A : Type 0} (told : List ℕ → List A) (place : OlaOperand → List A) where
   -- "after one space each"

@@ -11,7 +11,7 @@ ghost use Rattle.program_listing.specs.Row.{is_empty_place, lacks_place, content
 pub mod row;
 
 use program::{BinaryInstruction, RowRefusal};
-use row::{Row, RowText, put_row};
+use row::{Row, RowText, put_pieces};
 use vm_opcodes::RowPlaces;
 use vm_operands::OlaOperand;
 
@@ -50,7 +50,7 @@ impl RowText for Listed {
     const BETWEEN: u8 = b'+';
 
     // A register with offset as `r1+0x2`, one with factor as `0x2*r1`; nothing for an empty place.
-    fn push_place(row: &mut Row, operand: OlaOperand) {
+    fn push_pieces(row: &mut Row, operand: OlaOperand) {
         match operand {
             OlaOperand::Empty => {}
             OlaOperand::ImmediateOperand { value } => row.push_hex(value),
@@ -84,5 +84,5 @@ pub fn get_asm_form_code(
     if lacks_place(places, instruction) {
         return Err(RowRefusal::PlaceEmpty);
     }
-    put_row::<Listed>(instruction, text, 0).ok_or(RowRefusal::TextTooShort)
+    put_pieces::<Listed>(instruction, text, 0).ok_or(RowRefusal::TextTooShort)
 }

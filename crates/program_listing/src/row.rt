@@ -6,13 +6,16 @@ ghost use Rattle.text_write.specs.Put.{put_count, put_into};
 ghost use Rattle.vm_mnemonics.specs.Mnemonics.{mnemonic};
 ghost use Rattle.vm_hardware.specs.Registers.{register_text, special_text};
 ghost use Rattle.vm_operands.specs.declared.OlaOperand.{OlaOperand};
-ghost use Rattle.program_listing.specs.Places.{row_with, row_with_all, as_piece, spaced_by, bracketed_by, placed_by, row_pushed};
+ghost use Rattle.program_listing.specs.Places.{row_with, row_with_all, place_text, whole_pieces, as_piece, spaced_by, bracketed_by, placed_by, row_by, row_pushed};
 
 use program::BinaryInstruction;
-use std::marker::Model;
+use std::marker::{Model, PhantomData};
 use vm_hardware::{OlaRegister, OlaSpecialRegister};
 use vm_opcodes::{OlaOpcode, RowPlaces};
 use vm_operands::{ImmediateValue, OlaOperand};
+
+#[cfg(test)]
+mod tests;
 
 // The bytes of a row, of which there are at most 82. A text that would be too long for it is left out as a whole.
 #[derive(Drop)]
@@ -62,6 +65,13 @@ impl Row {
         self.len += text_digits::put_decimal(&mut self.bytes, self.len, value.number).unwrap_or(0);
     }
 
+    // Appends a text.
+    fn push_text(&mut self, text: &[u8])
+        ensures { self.new ≡ row_with self.old text.now }
+    {
+        self.len += text_write::put_bytes(&mut self.bytes, self.len, text).unwrap_or(0);
+    }
+
     // Appends a register.
     pub fn push_register(&mut self, register: OlaRegister)
         ensures { self.new ≡ row_with self.old (register_text register) }
@@ -86,8 +96,22 @@ pub trait RowText {
     const BETWEEN: u8;
 
     // Appends what stands in a place, piece by piece, each where the row has room for all of it.
-    fn push_place(row: &mut Row, operand: OlaOperand)
+    fn push_pieces(row: &mut Row, operand: OlaOperand)
         ensures { row.new ≡ row_with_all row.old (pieces operand) };
+
+    // Appends what stands in a place, of at most 23 bytes, as a whole where the row has room for all of it. One of more is left out.
+    fn push_place(row: &mut Row, operand: OlaOperand)
+        ensures { row.new ≡ row_with row.old (place_text pieces operand) }
+    {
+        let mut place = Row {
+            bytes: [0; 82],
+            len: 0,
+        };
+        Self::push_pieces(&mut place, operand);
+        if place.len <= 23 {
+            row.push_text(&place.bytes[..place.len]);
+        }
+    }
 }
 
 // One space and a place.
@@ -95,7 +119,7 @@ fn push_spaced<T: RowText>(row: &mut Row, operand: OlaOperand)
     ensures { row.new ≡ row_with_all row.old (spaced_by as_piece T.pieces operand) }
 {
     row.push(b' ');
-    T::push_place(row, operand);
+    T::push_pieces(row, operand);
 }
 
 // One space and an address, as `[op0+op1]`.
@@ -104,9 +128,9 @@ fn push_memory<T: RowText>(row: &mut Row, op0: OlaOperand, op1: OlaOperand)
 {
     row.push(b' ');
     row.push(b'[');
-    T::push_place(row, op0);
+    T::push_pieces(row, op0);
     row.push(T::BETWEEN);
-    T::push_place(row, op1);
+    T::push_pieces(row, op1);
     row.push(b']');
 }
 
@@ -143,8 +167,9 @@ fn push_places<T: RowText>(row: &mut Row, places: RowPlaces, instruction: Binary
     }
 }
 
-// Writes the row of an instruction, its mnemonic and its places, at byte `at` where it fits, and says how many bytes; otherwise leaves the text as it is.
-pub fn put_row<T: RowText>(
+// Writes the row of an instruction, its mnemonic and its places piece by piece, at byte `at` where it fits, and says how many bytes; otherwise leaves
+// the text as it is.
+pub fn put_pieces<T: RowText>(
     instruction: BinaryInstruction,
     text: &mut [u8],
     at: usize,
@@ -162,4 +187,31 @@ pub fn put_row<T: RowText>(
         instruction,
     );
     text_write::put_bytes(text, at, &row.bytes[..row.len])
+}
+
+// How a row is written whose places go in as a whole.
+struct Whole<T>(PhantomData<T>);
+
+impl<T: RowText> RowText for Whole<T> {
+    ghost pieces = { whole_pieces T.pieces };
+
+    ghost BETWEEN = { T.BETWEEN };
+
+    const BETWEEN: u8 = T::BETWEEN;
+
+    fn push_pieces(row: &mut Row, operand: OlaOperand) {
+        T::push_place(row, operand);
+    }
+}
+
+// Writes the row of an instruction, its mnemonic and its places, at byte `at` where it fits, and says how many bytes; otherwise leaves the text as it is.
+#[tactic(auto, using(crate::proofs::Places::whole_laws))]
+pub fn put_row<T: RowText>(
+    instruction: BinaryInstruction,
+    text: &mut [u8],
+    at: usize,
+) -> Option<usize>
+    ensures { (result ≡ put_count text.old at (row_by (place_text T.pieces) T.BETWEEN instruction)) × (text.new ≡ put_into text.old at (row_by (place_text T.pieces) T.BETWEEN instruction)) }
+{
+    put_pieces::<Whole<T>>(instruction, text, at)
 }

@@ -22,7 +22,7 @@ use Rattle.vm_operands.specs.declared.OlaOperand.{OlaOperand}
 use Rattle.vm_operands.specs.declared.OlaOperand.TheVariants.{Empty, ImmediateOperand, RegisterOperand, RegisterWithOffset, RegisterWithFactor, SpecialReg}
 use Rattle.program.specs.declared.BinaryInstruction.{BinaryInstruction}
 use Rattle.program_listing.specs.Places.{as_text, spaced_by, bracketed_by, placed_by, row_by, row_pushed}
-use Rattle.program_listing.proofs.Places.{Makes, NumberFits, NumbersFit, one_makes, at_most, both_make, register_most, special_most, row_whole}
+use Rattle.program_listing.proofs.Places.{Makes, NumberFits, NumbersFit, one_makes, makes_most, both_make, register_most, special_most, row_whole}
 use Rattle.source.specs.SourceText.{place_source, memory_source, places_source, spaced_all, source_row}
 use Rattle.source_rows.specs.Pieces.{source_pieces}
 
@@ -39,11 +39,11 @@ pair_whole r v h =
 
 pub source_whole : (o : OlaOperand) → NumberFits o → Makes 23 (source_pieces o) (place_source o)
 source_whole Empty h = one_makes 23 (special_text PSP) (lit≤ tt)
-source_whole (ImmediateOperand v) h = at_most 23 (one_makes 20 (decimal_text v.number) (decimal_most v.number (h v.number refl))) (lit≤ tt)
+source_whole (ImmediateOperand v) h = makes_most 23 (one_makes 20 (decimal_text v.number) (decimal_most v.number (h v.number refl))) (lit≤ tt)
 source_whole (RegisterOperand r) h = one_makes 23 (register_text r) (lit≤ tt)
 source_whole (RegisterWithOffset r v) h = pair_whole r v (h v.number refl)
 source_whole (RegisterWithFactor r v) h = pair_whole r v (h v.number refl)
-source_whole (SpecialReg s) h = at_most 23 (one_makes 3 (special_text s) (special_most s)) (lit≤ tt)
+source_whole (SpecialReg s) h = makes_most 23 (one_makes 3 (special_text s) (special_most s)) (lit≤ tt)
 
 -- ---- the row as it is put together is the source row
 

@@ -8,7 +8,7 @@ ghost use Rattle.source.specs.SourceText.{source_row, is_full, off_row, is_off_r
 ghost use Rattle.source_rows.specs.Pieces.{source_pieces};
 
 use program::BinaryInstruction;
-use program_listing::row::{Row, RowText, put_row};
+use program_listing::row::{Row, RowText, put_pieces};
 use vm_hardware::OlaSpecialRegister;
 use vm_opcodes::RowPlaces;
 use vm_operands::OlaOperand;
@@ -53,7 +53,7 @@ impl RowText for Source {
     const BETWEEN: u8 = b',';
 
     // Numbers in decimal, a register and its number with a comma between them; psp for an empty place.
-    fn push_place(row: &mut Row, operand: OlaOperand) {
+    fn push_pieces(row: &mut Row, operand: OlaOperand) {
         match operand {
             OlaOperand::Empty => row.push_special(OlaSpecialRegister::PSP),
             OlaOperand::ImmediateOperand { value } => row.push_decimal(value),
@@ -81,5 +81,5 @@ impl RowText for Source {
 pub fn put_source_row(text: &mut [u8], at: usize, instruction: BinaryInstruction) -> Option<usize>
     ensures { (result ≡ put_count text.old at (source_row instruction)) × (text.new ≡ put_into text.old at (source_row instruction)) }
 {
-    put_row::<Source>(instruction, text, at)
+    put_pieces::<Source>(instruction, text, at)
 }

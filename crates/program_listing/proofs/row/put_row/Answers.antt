@@ -1,9 +1,0 @@
--- `put_row` meets its contract.
-use Rattle.text_write.proofs.Laws.{same_count, same_into}
-use Rattle.program_listing.proofs.Places.{row_made}
-use Rattle.program_listing.proofs.row.put_row.Goals as goal
-
-pub returns : goal.returns
-returns g c =
-    let e = row_made g.T.RowText.pieces g.T.RowText.BETWEEN _ _ _ _ _ c.push_mnemonic.ensures c.row_places.ensures c.push_places.ensures c.row.view_is in
-    (same_count _ _ _ _ e _ c.put_bytes.ensures.0, same_into _ _ _ _ e _ c.put_bytes.ensures.1)
