@@ -277,9 +277,11 @@ pub whole_is : (pieces : OlaOperand → List (List ℕ)) (between : ℕ) (i : Bi
 whole_is pieces between i fits = row_whole (place_text pieces) (whole_pieces pieces) between (λ o h. one_makes 23 (place_text pieces o) (short_most _)) i fits
 
 module _ (pieces : OlaOperand → List (List ℕ)) (between : ℕ) (i : BinaryInstruction) (fits : NumbersFit i) (d : List ℕ) (at : ℕ) where
+  -- so its count is the whole row's
   pub whole_counted : (r : Option ℕ) → r ≡ put_count d at (row_pushed (whole_pieces pieces) between i) → r ≡ put_count d at (row_by (place_text pieces) between i)
   whole_counted r e = e ∙ ap (put_count d at) (whole_is pieces between i fits)
 
+  -- and so is what it leaves
   pub whole_stored : (b : List ℕ) → b ≡ put_into d at (row_pushed (whole_pieces pieces) between i) → b ≡ put_into d at (row_by (place_text pieces) between i)
   whole_stored b e = e ∙ ap (put_into d at) (whole_is pieces between i fits)
 

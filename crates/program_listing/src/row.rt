@@ -204,7 +204,8 @@ impl<T: RowText> RowText for Whole<T> {
     }
 }
 
-// Writes the row of an instruction, its mnemonic and its places, at byte `at` where it fits, and says how many bytes; otherwise leaves the text as it is.
+// Writes the row of an instruction, its mnemonic and its places as `push_place` appends them, at byte `at` where it fits, and says how many bytes;
+// otherwise leaves the text as it is.
 #[tactic(auto, using(crate::proofs::Places::whole_laws))]
 pub fn put_row<T: RowText>(
     instruction: BinaryInstruction,

@@ -33,6 +33,7 @@ pub pair_is : (o : OlaOperand) (r : OlaRegister) (v : ImmediateValue) → (o ≡
 pair_is o r v (inl e) = ap place_source e
 pair_is o r v (inr e) = ap place_source e
 
+-- its pieces make it
 pair_whole : (r : OlaRegister) (v : ImmediateValue) → v.number < 2 ^ 64 → Makes 23 (register_text r ∷ bytes "," ∷ decimal_text v.number ∷ []) (register_text r ++ bytes "," ++ decimal_text v.number)
 pair_whole r v h =
     both_make (both_make (one_makes 2 (register_text r) (register_most r)) (one_makes 1 (bytes ",") (lit≤ tt))) (one_makes 20 (decimal_text v.number) (decimal_most v.number h))
